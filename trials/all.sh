@@ -4,7 +4,7 @@
 #   all.sh [PROGRAM]     PROGRAM is crates/btrsend/out/btrsend if none is given
 #
 # A trial that cannot run here (there is no Btrfs, or no command that it needs) is skipped, and counted. What a trial that
-# fails has printed is shown. Nothing is proved or built. Status 0 if none failed. It takes some ten minutes.
+# fails has printed is shown. Nothing is proved or built. Status 0 if none failed. It takes some fifteen minutes.
 here=$(CDPATH='' cd -- "$(dirname -- "$0")" && pwd) || exit 2
 program=${1:-$here/../crates/btrsend/out/btrsend}
 [ -f "$program" ] && [ -x "$program" ] || { echo "there is no program $program" >&2; exit 2; }
@@ -29,11 +29,14 @@ trial() {
 trial words.sh "$here/words.sh"
 trial manual.sh "$here/manual.sh"
 trial levels.sh "$here/levels.sh"
+trial definitions.sh "$here/definitions.sh"
+trial edits.sh "$here/edits.sh"
 trial readme.sh "$here/readme.sh" "$program"
 trial launcher.sh "$here/launcher.sh" "$program"
 trial folder.sh "$here/folder.sh" "$here/../docs" "$program"
 trial faults.sh "$here/faults.sh" "$program"
 trial killed.sh "$here/killed.sh" 1000 "$program"
 BTRSEND=$program trial received.sh "$here/received.sh"
+trial restored_chain.sh "$here/restored_chain.sh" "$program"
 echo "trials: $passed passed, $failed failed, $skipped skipped"
 [ "$failed" = 0 ]

@@ -1,9 +1,10 @@
 #!/bin/sh
 # Tries the whole program against real faults: outputs that are full, closed or cut off, files that can not be read, that are
 # pipes, or that change between two readings, short reads and short writes, many words and strange ones; and against stores that
-# are missing, in use, damaged, or whose file fails. Most cases are of `compose`, and some of each other word. The program is the first word, or else the one that this repository has built;
-# nothing is proved or built here. It prints a line for each case, and ends with status 0 only where all are right. Needs
-# python3, which makes the streams, and gcc.
+# are missing, in use, damaged, or whose file fails. And its explanations, and what is said in front of files: explained.sh, which
+# is read here. Most cases are of `compose`, and some of each other word. The program is the first word, or else the one that this
+# repository has built; nothing is proved or built here. It prints a line for each case, and ends with status 0 only where all
+# are right. Needs python3, which makes the streams, and gcc.
 here=$(CDPATH='' cd -- "$(dirname -- "$0")" && pwd) || exit 2
 program=${1:-$here/../crates/btrsend/out/btrsend}
 [ -f "$program" ] && [ -x "$program" ] || { echo "there is no program $program" >&2; exit 2; }
@@ -86,6 +87,30 @@ stored, = struct.unpack('<I', damaged[117:121])
 put('damaged-note', b'refused 1 3 111 5 BadChecksum %08x %08x\n' % (stored, checksum(damaged[111:117] + bytes(4) + damaged[121:145])))
 put('small-second', full(b'b', 2, one + two))
 put('first-second', full(b'b', 2, long + two))
+
+# What is sent on top of a restored `b`, which has its UUID and the CTRANSID 11; the same as it is meant; with a name; and a full
+# stream that clones from it. `two-sources` clones from a restored `a` too, and `after` is what is sent next.
+def on_restored(name, ctransid, clones=b''):
+    head = command(2, uuid=uuid(7), ctransid=12, path=name, clone_uuid=uuid(2), clone_ctransid=ctransid)
+    return HEADER + head + three + command(3, path=b'4') + clone_of(2, ctransid, b'2') + clones + END
+
+def clone_of(number, ctransid, path):
+    return command(16, path=b'4', offset=0, clone_uuid=uuid(number), clone_ctransid=ctransid, clone_path=path, clone_offset=0, clone_len=3)
+
+put('restored', on_restored(b'd', 11))
+put('restored-meant', on_restored(b'd', 2))
+put('restored-named', on_restored(b'e', 2))
+put('two-sources', on_restored(b'd', 11, clone_of(1, 10, b'1')))
+put('cloning', full(b'f', 8, command(3, path=b'4') + clone_of(2, 11, b'2')))
+put('after', HEADER + command(2, uuid=uuid(9), ctransid=13, path=b'g', clone_uuid=uuid(7), clone_ctransid=12) + END)
+put('line-restored', b'complete d 00000000-0000-0001-0000-000000000007 12\n')
+put('list-restored', b'd 00000000-0000-0001-0000-000000000007 12 complete 00000000-0000-0001-0000-000000000002:2\n')
+put('line-after', b'complete g 00000000-0000-0001-0000-000000000009 13\n')
+put('bytes-two', b'two')
+
+# A full stream beside the others, and one that is damaged behind its head.
+put('alone', full(b'alone', 20, one))
+put('damaged-full', full(b'a', 1, one)[:-11] + b'!' + END)
 put('first-third', full(b'c', 3, long + two + three))
 put('first-same-head', full(b'b', 2, long + other))
 put('first-other-head', full(b'd', 2, long + other))
@@ -687,136 +712,9 @@ timeout 20 "$program" show itself z >>itself 2>note; status=$?
 refused 'a missing snapshot comes first, also if standard output is the store' 8 'missing z'
 case_is 'the store is as it was' "$(cmp closed-store itself 2>&1)"
 
-# ---- the second line, which a terminal or the variable BTRSEND_EXPLAIN asks for
+# ---- explanations, and what is said in front of files
 
-# The words that follow, with a terminal for all three files; what it shows goes to standard output.
-cat >on_terminal.py <<'PYTHON'
-import os, pty, sys
-child, terminal = pty.fork()
-if child == 0:
-    os.execv(sys.argv[1], sys.argv[1:])
-shown = b''
-while True:
-    try:
-        more = os.read(terminal, 4096)
-    except OSError:
-        break
-    if not more:
-        break
-    shown += more
-sys.stdout.buffer.write(shown.replace(b'\r\n', b'\n'))
-sys.exit(os.waitstatus_to_exitcode(os.waitpid(child, 0)[1]))
-PYTHON
-
-# CASE STATUS FILE: the last run ended with this status, and FILE has the two lines that stand in `wanted`.
-explained() {
-    if [ "$status" != "$2" ]; then case_is "$1" "status $status and not $2"
-    elif ! cmp -s "$3" wanted; then case_is "$1" "it says '$(cat "$3")'"
-    else case_is "$1" ''; fi
-}
-explain() { BTRSEND_EXPLAIN=1 timeout 20 "$program" "$@" >out 2>note; status=$?; }
-on_terminal() { timeout 20 python3 on_terminal.py "$program" "$@" >shown; status=$?; }
-
-printf '%s\n' 'input fault' \
-    'btrsend: missing: No such file or directory (os error 2); give it again when it can be read; `compose` reads each file twice, so unpack a compressed stream into a file first' >wanted
-explain audit none missing; explained 'what to do about a missing file' 3 note
-on_terminal audit none missing; explained 'the same on a terminal' 3 shown
-for name in once linked; do
-    printf '%s\n' 'input fault' "btrsend: $name: it can be read only once; give it again when it can be read; \`compose\` reads each file twice, so unpack a compressed stream into a file first" >wanted
-    (exec cat m0 >once) &
-    feeder=$!
-    explain audit none once $name; explained "what to do about a pipe that is given twice, as $name" 3 note
-    kill "$feeder" 2>/dev/null; wait "$feeder" 2>/dev/null
-done
-printf '%s\n' 'store fault' \
-    'btrsend: nostore: No such file or directory (os error 2); see to the disk, or to who uses the store; then look at `list`' \
-    >wanted
-explain list nostore; explained 'what to do about a missing store' 5 note
-printf '%s\n' 'refused 1 1 17 13 NoParent' \
-    'btrsend: second, command 1: the parent snapshot is missing: give the streams in the order in which they were sent; its UUID is 00000000-0000-0001-0000-000000000001' \
-    >wanted
-explain compose none second; explained 'what to do about a missing parent' 1 note
-explain audit none /dev/stdin <second; sed -i 's/second,/\/dev\/stdin,/' wanted
-explained 'a file that is given as standard input is read again for the UUID' 1 note
-sed -i 's/; its UUID.*//' wanted
-cat second | BTRSEND_EXPLAIN=1 timeout 20 "$program" audit none /dev/stdin >out 2>note; status=$?
-explained 'a pipe is not' 1 note
-printf '%s\n' 'refused 1 3 79 28 NoSource' \
-    'btrsend: sourceless, command 3: a clone takes its data from a snapshot that is missing: give the streams of that one first; its UUID is 00000000-0000-0001-0000-000000000001' \
-    >wanted
-explain audit none sourceless; explained 'what to do about a missing source' 1 note
-printf '%s\n' 'output fault' \
-    'btrsend: standard output is a terminal, and a stream is binary data: write it to a file or into a pipe' >wanted
-on_terminal compose none small second; explained 'no stream goes to a terminal' 4 shown
-printf '%s\n' 'output fault' \
-    'btrsend: standard output is one of the files that are read: write the stream to another file' >wanted
-for word in export compose; do
-    cp small itself
-    timeout 20 "$program" $word none itself >>itself 2>note; status=$?
-    explained "$word >> its own file ends" 4 note
-    case_is "$word leaves its own file as it was" "$(cmp small itself 2>&1)"
-done
-
-for words in 'compose:2' 'compose none:2' 'send closed-store:2' 'restore:2' 'send nostore a:5' 'export nostore small:5' \
-    'send store-other a:6' 'restore closed-store z:8' 'compose none missing:4'; do
-    on_terminal ${words%:*}
-    case_is "on a terminal another status comes first: ${words%:*}" "$([ "$status" = "${words##*:}" ] || echo "status $status")"
-done
-printf '%s\n' 'output fault' \
-    'btrsend: standard output is one of the files that are read: write the stream to another file' >wanted
-for words in 'audit none itself' 'dump itself' 'receive closed-store itself' 'interleave closed-store 0 itself'; do
-    cp second itself; cp closed-store closed-before
-    timeout 20 "$program" $words >>itself 2>note; status=$?
-    explained "$words >> the file that is read" 4 note
-    case_is "$words leaves its file as it was" "$(cmp second itself 2>&1; cmp closed-store closed-before 2>&1)"
-done
-
-# ---- names for the parts of files
-
-printf '%s\n' 'refused 2 1 17 10 BadName' \
-    'btrsend: second, command 1: the name of the snapshot is not valid: write name:NEW in front of the file, with a valid name' >wanted
-explain audit none small name:. second; explained 'the file is named and not the word in front of it' 1 note
-printf '%s\n' 'refused 1 1 17 13 NoParent' \
-    'btrsend: second, command 1: the parent snapshot is missing: give the streams in the order in which they were sent; its UUID is 00000000-0000-0001-0000-000000000001' \
-    >wanted
-explain audit none name:other second; explained 'a missing parent of a file with a name' 1 note
-printf '%s\n' 'usage' 'btrsend: a file has to follow the name that is given for it' >wanted
-explain audit none small name:other; explained 'a name behind the last file' 2 note
-cp small itself
-printf '%s\n' 'output fault' \
-    'btrsend: standard output is one of the files that are read: write the stream to another file' >wanted
-timeout 20 env BTRSEND_EXPLAIN=1 "$program" compose none name:other itself >>itself 2>note; status=$?
-explained 'a file with a name is not written to itself' 4 note
-cp small name:x
-timeout 20 "$program" audit none ./name:x >out 2>note; status=$?
-case_is 'a file that is called like a name' "$([ "$status" = 0 ] || echo "status $status")"
-timeout 20 "$program" audit none name:1 small name:2 second >out 2>note; status=$?
-case_is 'a chain with names' "$([ "$status" = 0 ] && grep -q '^accepted 2 ' out || echo "status $status, $(cat out note)")"
-timeout 20 "$program" export none name:1 small name:2 second >exported 2>note; status=$?
-case_is 'it is exported with them' "$([ "$status" = 0 ] || echo "status $status, $(cat note)")"
-rm -f named
-timeout 20 "$program" init named >out 2>note
-timeout 20 "$program" receive named exported >out 2>note; status=$?
-case_is 'what was exported has the names' "$([ "$status" = 0 ] && [ "$(sed 's/^complete \([^ ]*\) .*/\1/' out | tr '\n' ' ')" = '1 2 ' ] || echo "status $status, $(cat out note)")"
-timeout 20 env BTRSEND_EXPLAIN=1 "$program" export none name:other itself >>itself 2>note; status=$?
-printf '%s\n' 'output fault' \
-    'btrsend: standard output is one of the files that are read: write the stream to another file' >wanted
-explained 'a file with a name is not exported to itself' 4 note
-
-# ---- names that are no text
-
-rm -f names
-timeout 20 "$program" init names >out 2>note
-timeout 20 "$program" receive names 'name:escaped:\xff\x20' small >out 2>note; status=$?
-case_is 'a name that is no text is given' "$([ "$status" = 0 ] && grep -q '^complete \\xff\\x20 ' out || echo "status $status, $(cat out note)")"
-timeout 20 "$program" show names 'escaped:\xff\x20' >out 2>note; status=$?
-case_is 'it is asked for as it is printed' "$([ "$status" = 0 ] && grep -q '^subvol \\xff\\x20 ' out || echo "status $status, $(cat out note)")"
-timeout 20 "$program" drop names 'escaped:\xff' >out 2>note; status=$?
-case_is 'another is not there' "$([ "$status" = 8 ] && [ "$(cat note)" = 'missing \xff' ] || echo "status $status, $(cat note)")"
-printf '%s\n' 'usage' \
-    'btrsend: after escaped: write a name as `list` and `show` print it: a backslash, x and two of 0-9 a-f for each byte that is not visible' >wanted
-explain show names 'escaped:\xFF'; explained 'a word that list never prints' 2 note
-explain compose none name:escaped:a\ b small; explained 'a new name that list never prints' 2 note
+. "$here/explained.sh"
 
 # ---- the files are as they were
 

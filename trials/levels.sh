@@ -1,11 +1,13 @@
 #!/bin/sh
-# Draws the levels of the crates from crates.txt, and compares them with what docs/ARCHITECTURE.md shows between its two marks.
+# Draws the levels of the crates from crates.txt, and compares them with what docs/ARCHITECTURE.md
+# shows between its two marks.
 #
 #   levels.sh            compares
 #   levels.sh --write    puts them there
 #
-# A crate stands one level above the highest crate that it uses. Behind it are the crates that it uses, less those that
-# another one of them uses too. The kit's crates are left out. Status 0 if the page is right. Needs python3.
+# A crate is one level above the highest crate that it uses. Behind it are the crates that it uses,
+# without those that another one of them uses too. Left out are the kit's crates, and `scratch`, in
+# which somebody tries a proof. Status 0 if the page is right. Needs python3.
 here=$(CDPATH='' cd -- "$(dirname -- "$0")/.." && pwd) || exit 2
 cd -- "$here" || exit 2
 exec python3 - "$@" <<'PYTHON'
@@ -20,6 +22,7 @@ for line in open('crates.txt'):
     if line:
         name, libraries = line.split(':')
         uses[name.split()[0]] = libraries.split()
+uses.pop('scratch', None)
 uses = {name: [it for it in libraries if it in uses] for name, libraries in uses.items()}
 
 below, level = {}, {}
@@ -42,7 +45,8 @@ lines = ['```\n']
 for number in sorted(set(level.values()), reverse=True):
     for at, name in enumerate(sorted(it for it in level if level[it] == number)):
         front = ('%2d  ' % number if at == 0 else '    ') + '%-22s' % name
-        lines += [it + '\n' for it in textwrap.wrap(front + ' '.join(sorted(reduced(name))), 100, subsequent_indent=' ' * 26,
+        text = front + ' '.join(sorted(reduced(name)))
+        lines += [it + '\n' for it in textwrap.wrap(text, 100, subsequent_indent=' ' * 26,
                                                     drop_whitespace=False)]
 lines = [it.rstrip() + '\n' for it in lines + ['```\n']]
 

@@ -1,10 +1,11 @@
 #!/bin/sh
-# The parts of the man page that say what the program says: its SYNOPSIS, which is the usage of `--help`, and the explanation of
-# each message and each refusal. They are between lines of their own, which name them, and come from the program's texts in
-# the sources of `host_io`: help.rt and advice.rt. With --write they are written anew. Without it they are compared, and each
-# line that differs is printed. The rest of the man page is written by hand. Each command of the usage, each status and each
-# refusal must have one entry there, README.md must name each command, and the same message for each status, and `man` must
-# warn of nothing. Nothing is proved or built here. Status 0 only if all is right. Needs python3 and man.
+# The parts of the man page that say what the program says: its version, its SYNOPSIS, which is the usage of `--help`, and the
+# explanation of each message and each refusal. The last two are between lines of their own, which name them. All come from the
+# program's texts in the sources of `host_io`: help.rt and advice.rt. With --write they are written anew. Without it they are
+# compared, and each line that differs is printed. The rest of the man page is written by hand. Each command of the usage, each
+# status and each refusal must have one entry there, README.md must name each command, and the same message for each status,
+# CHANGELOG.md must begin with the version, and `man` must warn of nothing. Nothing is proved or built here. Status 0 only if all
+# is right. Needs python3 and man.
 here=$(CDPATH='' cd -- "$(dirname -- "$0")" && pwd)/.. || exit 2
 cd -- "$here" || exit 2
 case $*: in
@@ -20,6 +21,7 @@ import textwrap
 MANUAL = 'docs/btrsend.1'
 ADVICE = 'crates/host_io/src/advice.rt'
 HELP = 'crates/host_io/src/help.rt'
+NUMBERS = 'crates/sx_base/src/refusal.rt'
 wrong = 0
 
 def complain(what):
@@ -65,18 +67,32 @@ def rows(table):
     found = re.findall(r'\(\s*b?"([^"]*)",\s*(?:"([^"]*)"|([A-Z_]+)),?\s*\)', text)
     return [(name, said or constants[constant]) for name, said, constant in found]
 
+# The sentences of the arms of a function, each of which has one, or asks another function of this form.
+def arms(function):
+    text = re.search(r'fn ' + function + r'\b.*?\n}', advice, re.S).group(0)
+    found = re.findall(r'=>\s*\{?\s*"([^"]*)"', text)
+    if len(found) + len(re.findall(r'=>\s*about_', text)) != text.count('=>'):
+        complain('%s: %d sentences of %s are read, and there are others' % (ADVICE, len(found), function))
+    return found
+
+# A sentence with what stands for values in it, and the values that it takes.
+def with_values(function, **values):
+    said = re.search(r'fn ' + function + r'\b.*?"([^"]*)"', advice, re.S).group(1)
+    return re.sub(r'\{(\w+)\}', lambda name: values[name.group(1)], said)
+
 refusals = rows('REFUSALS')
+numbers = dict(re.findall(r'Refusal::(\w+)(?:\(_\)| \{ \.\. \})? => (\d+),', open(NUMBERS).read()))
 notes = rows('NOTES') + [('damaged', constants['DAMAGED'])]
-about_words = re.search(r'fn about_words.*?\n}', advice, re.S).group(0)
-of_words = re.findall(r'=>\s*\{?\s*"([^"]*)"', about_words)
+version = re.search(r'const VERSION: &str = "(.*)\\n";', help).group(1)
 usage = [line.replace('usage: ', '').strip() for line in re.search(r'\nusage: .*?\n\n', help, re.S).group(0).strip().split('\n')]
 
 # That each row of the sources was found.
 for table, found in (('REFUSALS', refusals), ('NOTES', notes[:-1])):
     if 'const %s: [' % table not in advice or '; %d] = [' % len(found) not in re.search('const %s.*' % table, advice).group(0):
         complain('%s: %d rows of %s are read, and there are others' % (ADVICE, len(found), table))
-if len(of_words) != about_words.count('=>'):
-    complain('%s: %d sentences of about_words are read, and there are others' % (ADVICE, len(of_words)))
+for name, _ in refusals:
+    if name not in numbers:
+        complain('%s: no number of %s is read' % (NUMBERS, name))
 if not all(line.startswith('btrsend ') for line in usage):
     complain(HELP + ': the usage is not read')
 
@@ -94,11 +110,19 @@ for name, said in notes:
     explanations.setdefault(name, []).append(said)
 explanations['not a store'] = explanations.pop('not a store 0') + explanations['not a store']
 explanations['output fault'] += [said for name, said in constants.items() if name.startswith('TO_')]
-explanations['usage'] = of_words
+explanations['not a store'][1:1] = arms('about_no_store')
+explanations['missing'] += [constants['UNFINISHED']]
+explanations['usage'] = arms('about_words') + arms('about_forms')
+explanations['input fault'] = arms('about_input')
+explanations['store fault'] = list(dict.fromkeys(arms('about_store') + arms('about_unopened')))
+restored = with_values('about_restored', uuid='UUID', ctransid='M', stored='N')
 first = {}
-for at, (name, said) in enumerate(refusals):
-    explanations[name] = [said if said not in first else 'that of %d' % first[said]]
-    first.setdefault(said, at + 1)
+for name, said in refusals:
+    explanations[name] = [said if said not in first else 'that of ' + first[said]]
+    first.setdefault(said, numbers[name])
+explanations['BadMagic'] += arms('about_no_stream')
+for name in ('NoParent', 'NoSource'):
+    explanations[name] += [constants['BEGUN'], restored]
 
 def explanation(name):
     said = explanations[name]
@@ -124,7 +148,10 @@ def put(page, begin, end, lines):
     return before + begins + '\n'.join(lines) + '\n' + ends + after
 
 old = open(MANUAL).read()
-new = put(old, '.\\" BEGIN SYNOPSIS', '.\\" END SYNOPSIS', synopsis())
+new = re.sub(r'(?m)^(\.TH BTRSEND 1 \S+) "[^"]*"', lambda begin: '%s "%s"' % (begin.group(1), version), old)
+if 'TH BTRSEND 1' not in old or '"%s"' % version not in new:
+    complain('the man page has no version')
+new = put(new, '.\\" BEGIN SYNOPSIS', '.\\" END SYNOPSIS', synopsis())
 for name in explanations:
     new = put(new, '.\\" EXPLANATION ' + name, '.\\" END', explanation(name))
 for name in re.findall(r'^\.\\" EXPLANATION (.*)$', new, re.M):
@@ -137,7 +164,7 @@ def entries(text, what):
     return len(re.findall(r'^\.TP\n' + what, text, re.M))
 
 readme = open('README.md').read()
-of_calls = new[new.index('.SH COMMANDS'):new.index('.SH NAMES')]
+of_calls = new[new.index('.SH COMMANDS'):new.index('.SH "NAMES AND PARENTS"')]
 for line in usage:
     for word in re.findall(r'--[a-z]+', line) or [line.split()[1]]:
         if entries(of_calls, r'\.\w+ .*?' + re.escape(plain(word)) + r'\b') < 1:
@@ -145,9 +172,13 @@ for line in usage:
         if word not in ('--help', '--version', 'gen', 'trial') and not re.search(r'^\|.*\| `%s ' % word, readme, re.M):
             complain('README.md has no row for ' + word)
 of_refusals = new[new.index('.SH REFUSALS'):new.index('.SH STORES')]
-for at, (name, _) in enumerate(refusals):
-    if entries(of_refusals, r'\.BI? "?%d %s\b' % (at + 1, name)) != 1:
-        complain('the man page has not one entry of the refusal %d %s' % (at + 1, name))
+for name, _ in refusals:
+    if entries(of_refusals, r'\.BI? "?%s %s\b' % (numbers[name], name)) != 1:
+        complain('the man page has not one entry of the refusal %s %s' % (numbers[name], name))
+
+changes = re.search(r'(?m)^## (\S+)', open('CHANGELOG.md').read()).group(1)
+if version != 'btrsend ' + changes:
+    complain('CHANGELOG.md begins with %s, and the program is %s' % (changes, version))
 
 # The statuses of the man page, each with its message, and those of README.md.
 of_statuses = new[new.index('.SH "EXIT STATUS"'):new.index('.SH REFUSALS')]

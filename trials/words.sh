@@ -1,11 +1,15 @@
 #!/bin/sh
-# Looks at the words of what people read: README.md, the man page, `--help` and the explanations.
+# Looks at the words of what people read: README.md, the man page, `--help`, the explanations, and
+# the pages in docs.
 #
-# - No private word stands there for which there is a common one. The list below has those that can be matched safely.
-# - No line is longer than 100 columns. Tables, examples and the output in them are not looked at. README.md has at most 200
-#   lines.
-# - No sentence of README.md and of the man page has more than 25 words, roughly counted: a piece of code counts as one. The
-#   quoted theorem is not looked at.
+# - No private word is there for which there is a common one. The list below has those that can be
+#   matched safely. Of pages in docs HEADLINE, ARCHITECTURE and CONTRACTS are looked at, without
+#   their code.
+# - No line is longer than 100 columns. Tables, examples and the output in them are not looked at.
+#   README.md has at most 200 lines.
+# - No sentence of README.md, of the man page and of four pages in docs has more than 25 words,
+#   roughly counted: a piece of code counts as one. The quoted theorem is not looked at. No cell of
+#   a table of these pages has more than one sentence.
 #
 # Nothing is proved or built here. Status 0 if all is right. Needs python3.
 here=$(CDPATH='' cd -- "$(dirname -- "$0")/.." && pwd) || exit 2
@@ -28,6 +32,8 @@ PRIVATE = [
     (r'a list of rows|a row of (files|streams)', 'chain'),
     (r'the outside', 'the base'),
 ]
+PLAIN = ('docs/HEADLINE.md', 'docs/ARCHITECTURE.md', 'docs/CONTRACTS.md')
+PAGES = PLAIN + ('docs/PROOFS.md', 'docs/DECISIONS.md', 'docs/DEFINITIONS.md', 'docs/FORMAT.md')
 WIDTH, WORDS = 100, 25
 wrong = 0
 
@@ -45,7 +51,7 @@ def prose(text):
     for number, line in enumerate(text.split('\n'), 1):
         if line.startswith('```'):
             fenced = not fenced
-        elif not fenced and not line.startswith(('    ', '|', '>')):
+        elif not fenced and not re.match(r'    |\||>|\[[^]]*\]: ', line):
             yield number, line
 
 # The strings of a source of texts, with the number of the line of each piece.
@@ -66,7 +72,7 @@ def look_for_private(path, pieces):
 def paragraphs(lines):
     found, begin = [], 0
     for number, line in lines:
-        if not line.strip() or re.match(r'- |\d+\. |#', line):
+        if not line.strip() or re.match(r' *(- |\d+\. )|#', line):
             if found:
                 yield begin, '\n'.join(found)
             found = []
@@ -84,12 +90,17 @@ look_for_private('docs/btrsend.1', [(1, '\n'.join('' if line.startswith('.\\"') 
 for path in ('crates/host_io/src/help.rt', 'crates/host_io/src/advice.rt'):
     look_for_private(path, strings(text_of(path)))
 
+for path in PLAIN:
+    text = re.sub(r'`[^`]*`', lambda code: 'code' + '\n' * code.group().count('\n'), text_of(path))
+    look_for_private(path, paragraphs(prose(text)))
+
 # ---- columns and lines
 
 if readme.count('\n') > 200:
     complain('README.md', '%d lines' % readme.count('\n'))
 
-for path in ('README.md', 'CONTRIBUTING.md', 'CHANGELOG.md', 'trials/README.md', 'bench/README.md'):
+OTHERS = ('README.md', 'CONTRIBUTING.md', 'CHANGELOG.md', 'trials/README.md', 'bench/README.md')
+for path in OTHERS + PAGES:
     for number, line in prose(text_of(path)):
         if len(line) > WIDTH:
             complain('%s:%d' % (path, number), '%d columns' % len(line))
@@ -137,6 +148,13 @@ def manual_paragraphs(text):
 
 look_at_sentences('README.md', [(at, plain(text)) for at, text in paragraphs(prose(readme)) if not text.startswith('#')])
 look_at_sentences('docs/btrsend.1', manual_paragraphs(manual))
+for path in PLAIN + ('docs/PROOFS.md',):
+    page = text_of(path)
+    pieces = [(at, plain(text)) for at, text in paragraphs(prose(page))]
+    look_at_sentences(path, [(at, text) for at, text in pieces if not text.startswith('#')])
+    for number, line in enumerate(page.split('\n'), 1):
+        if line.startswith('|') and re.search(r'[.!?] +[A-Z]', plain(line)):
+            complain('%s:%d' % (path, number), 'a cell of more than one sentence')
 
 print('words.sh: %s' % ('all right' if not wrong else '%d wrong' % wrong))
 sys.exit(wrong != 0)

@@ -11,13 +11,13 @@ use Rattle.send_model.specs.Order.{heads}
 use Rattle.send_model.specs.Cells.{recelled_state, recelled_step}
 use Rattle.send_model.specs.Due.{Due, DoneWhole, RefusedAt, Limited, limited_from, stop_due, audit_due, audit_due_of, accepted_line_of}
 use Rattle.send_model.specs.Words.{Audit}
-use Rattle.send_model.specs.Renamed.{Names, renamed, renamed_limited}
+use Rattle.send_model.specs.Overridden.{Overrides, overridden, overridden_limited}
 use Rattle.send_model.specs.Sources.{EndSaysOf}
 use Rattle.send_model.proofs.CellClones.{all_steps-cells}
 use Rattle.sx_base.specs.Calls.{IfAllTold, Wrote}
 use Rattle.sx_base.specs.declared.outcome.Outcome.{Outcome}
 use Rattle.sx_base.specs.declared.outcome.Outcome.TheVariants as ended
-use Rattle.part_names.specs.Naming.{sources_named}
+use Rattle.part_names.specs.Overriding.{sources_with}
 use Rattle.auditor.specs.declared.counts.Totals.{Totals}
 use Rattle.auditor.specs.Following.{blank, HaveSameShape, blank_step, Followed, follow, follow_all, due_from_here, beside}
 use Rattle.auditor.specs.Answers.{Stops, AllAccepted, AllEnd, accepted_text, WritesLine, AuditEnds}
@@ -80,11 +80,11 @@ same_due core store guards files same = due_over core store guards (limited_from
 
 -- ---- with what was written
 
-line_is : (new_names : Names) (start : Followed) (totals : Totals) (files : List (List ℕ)) → AllAccepted new_names start totals files
-    → accepted_text totals.parts totals.commands ≡ accepted_line_of (renamed new_names (input files)).items
-line_is new_names start totals files all =
+line_is : (overrides : Overrides) (start : Followed) (totals : Totals) (files : List (List ℕ)) → AllAccepted overrides start totals files
+    → accepted_text totals.parts totals.commands ≡ accepted_line_of (overridden overrides (input files)).items
+line_is overrides start totals files all =
     ap (λ (n : ℕ). accepted_text n totals.commands) all.counted.parts_are
-    ∙ ap (λ (n : ℕ). accepted_text (length (heads (renamed new_names (input files)).items)) n) all.counted.commands_are
+    ∙ ap (λ (n : ℕ). accepted_text (length (heads (overridden overrides (input files)).items)) n) all.counted.commands_are
 
 told_all : (told : Option (List (List ℕ × List ℕ))) (names : List (List ℕ)) (P Q : List (List ℕ) → Type 0) → ((files : List (List ℕ)) → P files → Q files) → IfAllTold told names P → IfAllTold told names Q
 told_all None names P Q f p = tt
@@ -94,30 +94,30 @@ told_all (Some table) names P Q f p = f _ p
 abbrev pub start_over : {C : Type 0} → Store C → List Guard → Followed
 start_over core guards = beside guards (record { store = blank core; part = None })
 
-from_start : (told : Option (List (List ℕ × List ℕ))) (new_names : Names) (names : List (List ℕ)) (guards : List Guard) (start first : State (Unit {0})) (r result : Result Totals Outcome) → start ≡ first → r ≡ result
-    → IfAllTold told names (AllEnd new_names (beside guards start) r) → IfAllTold told names (AllEnd new_names (beside guards first) result)
-from_start told new_names names guards start first r result e was all =
-    subst (λ (s : State (Unit {0})). IfAllTold told names (AllEnd new_names (beside guards s) result)) e (subst (λ (x : Result Totals Outcome). IfAllTold told names (AllEnd new_names (beside guards start) x)) was all)
+from_start : (told : Option (List (List ℕ × List ℕ))) (overrides : Overrides) (names : List (List ℕ)) (guards : List Guard) (start first : State (Unit {0})) (r result : Result Totals Outcome) → start ≡ first → r ≡ result
+    → IfAllTold told names (AllEnd overrides (beside guards start) r) → IfAllTold told names (AllEnd overrides (beside guards first) result)
+from_start told overrides names guards start first r result e was all =
+    subst (λ (s : State (Unit {0})). IfAllTold told names (AllEnd overrides (beside guards s) result)) e (subst (λ (x : Result Totals Outcome). IfAllTold told names (AllEnd overrides (beside guards start) x)) was all)
 
 -- All is accepted, and the line is written, or the output failed, or there is no memory for it.
-pub audit_accepts : {C : Type 0} (told : Option (List (List ℕ × List ℕ))) (new_names : Names) (names : List (List ℕ)) (core : Store C) (store : Store ℕ) (guards : List Guard) (start : State (Unit {0})) (r : Result Totals Outcome) (totals : Totals) (old new : Option (List ℕ)) (before now : ℕ) (outcome : Outcome)
-    → HaveSameShape core store → start ≡ record { store = blank core; part = None } → r ≡ Ok totals → IfAllTold told names (AllEnd new_names (beside guards start) r) → WritesLine (accepted_text totals.parts totals.commands) old new before now outcome
-    → IfAllTold told names (λ files. Wrote old new (AuditEnds store guards new_names files outcome))
-audit_accepts {C} told new_names names core store guards start r totals old new before now outcome same fresh was all wrote =
-    told_all told names (AllAccepted new_names (start_over core guards) totals) (λ files. Wrote old new (AuditEnds store guards new_names files outcome)) (λ files accepted. by_outcome files accepted outcome wrote)
-    (from_start told new_names names guards start (start_over core guards).state r (Ok totals) fresh was all)
+pub audit_accepts : {C : Type 0} (told : Option (List (List ℕ × List ℕ))) (overrides : Overrides) (names : List (List ℕ)) (core : Store C) (store : Store ℕ) (guards : List Guard) (start : State (Unit {0})) (r : Result Totals Outcome) (totals : Totals) (old new : Option (List ℕ)) (before now : ℕ) (outcome : Outcome)
+    → HaveSameShape core store → start ≡ record { store = blank core; part = None } → r ≡ Ok totals → IfAllTold told names (AllEnd overrides (beside guards start) r) → WritesLine (accepted_text totals.parts totals.commands) old new before now outcome
+    → IfAllTold told names (λ files. Wrote old new (AuditEnds store guards overrides files outcome))
+audit_accepts {C} told overrides names core store guards start r totals old new before now outcome same fresh was all wrote =
+    told_all told names (AllAccepted overrides (start_over core guards) totals) (λ files. Wrote old new (AuditEnds store guards overrides files outcome)) (λ files accepted. by_outcome files accepted outcome wrote)
+    (from_start told overrides names guards start (start_over core guards).state r (Ok totals) fresh was all)
   where
-    by_outcome : (files : List (List ℕ)) → AllAccepted new_names (start_over core guards) totals files → (x : Outcome) → WritesLine (accepted_text totals.parts totals.commands) old new before now x → Wrote old new (AuditEnds store guards new_names files x)
+    by_outcome : (files : List (List ℕ)) → AllAccepted overrides (start_over core guards) totals files → (x : Outcome) → WritesLine (accepted_text totals.parts totals.commands) old new before now x → Wrote old new (AuditEnds store guards overrides files x)
     by_outcome files accepted ended.Done appends =
-        let done : audit_due_of store guards (renamed_limited new_names (limited_from 1 files)) ≡ DoneWhole = sym (due_over core store guards (renamed_limited new_names (limited_from 1 files)) same) ∙ accepted.done in
-        (accepted_text totals.parts totals.commands, appends, (done, done_says (line_is new_names (start_over core guards) totals files accepted)))
+        let done : audit_due_of store guards (overridden_limited overrides (limited_from 1 files)) ≡ DoneWhole = sym (due_over core store guards (overridden_limited overrides (limited_from 1 files)) same) ∙ accepted.done in
+        (accepted_text totals.parts totals.commands, appends, (done, done_says (line_is overrides (start_over core guards) totals files accepted)))
       where
-        done_says : accepted_text totals.parts totals.commands ≡ accepted_line_of (renamed new_names (input files)).items
-            → EndSaysOf (Audit [] 0 0) store (sources_named new_names files) DoneWhole (accepted_text totals.parts totals.commands)
+        done_says : accepted_text totals.parts totals.commands ≡ accepted_line_of (overridden overrides (input files)).items
+            → EndSaysOf (Audit [] 0 0) store (sources_with overrides files) DoneWhole (accepted_text totals.parts totals.commands)
         done_says e = e
     by_outcome files accepted ended.OutputFault (rose, part) =
-        let done : audit_due_of store guards (renamed_limited new_names (limited_from 1 files)) ≡ DoneWhole = sym (due_over core store guards (renamed_limited new_names (limited_from 1 files)) same) ∙ accepted.done in
-        let line = line_is new_names (start_over core guards) totals files accepted in
+        let done : audit_due_of store guards (overridden_limited overrides (limited_from 1 files)) ≡ DoneWhole = sym (due_over core store guards (overridden_limited overrides (limited_from 1 files)) same) ∙ accepted.done in
+        let line = line_is overrides (start_over core guards) totals files accepted in
         let text : List ℕ = accepted_text totals.parts totals.commands in (
           take part.0 text,
           part.2,
@@ -138,16 +138,16 @@ audit_accepts {C} told new_names names core store guards start r totals old new 
     by_outcome files accepted (ended.InputChanged file place) w = absurd w
 
 -- The audit ends early, and nothing is written.
-pub audit_stops : {C : Type 0} (told : Option (List (List ℕ × List ℕ))) (new_names : Names) (names : List (List ℕ)) (core : Store C) (store : Store ℕ) (guards : List Guard) (start : State (Unit {0})) (r : Result Totals Outcome) (out : Option (List ℕ)) (outcome : Outcome)
-    → HaveSameShape core store → start ≡ record { store = blank core; part = None } → r ≡ Err outcome → IfAllTold told names (AllEnd new_names (beside guards start) r)
-    → IfAllTold told names (λ files. Wrote out out (AuditEnds store guards new_names files outcome))
-audit_stops {C} told new_names names core store guards start r out outcome same fresh was stops =
-    told_all told names (AllEnd new_names (start_over core guards) (Err outcome)) (λ files. Wrote out out (AuditEnds store guards new_names files outcome)) (λ files s. ([], Appends-nil out, by_outcome files outcome s))
-    (from_start told new_names names guards start (start_over core guards).state r (Err outcome) fresh was stops)
+pub audit_stops : {C : Type 0} (told : Option (List (List ℕ × List ℕ))) (overrides : Overrides) (names : List (List ℕ)) (core : Store C) (store : Store ℕ) (guards : List Guard) (start : State (Unit {0})) (r : Result Totals Outcome) (out : Option (List ℕ)) (outcome : Outcome)
+    → HaveSameShape core store → start ≡ record { store = blank core; part = None } → r ≡ Err outcome → IfAllTold told names (AllEnd overrides (beside guards start) r)
+    → IfAllTold told names (λ files. Wrote out out (AuditEnds store guards overrides files outcome))
+audit_stops {C} told overrides names core store guards start r out outcome same fresh was stops =
+    told_all told names (AllEnd overrides (start_over core guards) (Err outcome)) (λ files. Wrote out out (AuditEnds store guards overrides files outcome)) (λ files s. ([], Appends-nil out, by_outcome files outcome s))
+    (from_start told overrides names guards start (start_over core guards).state r (Err outcome) fresh was stops)
   where
-    by_outcome : (files : List (List ℕ)) (x : Outcome) → Stops (due_from_here (start_over core guards) (renamed_limited new_names (limited_from 1 files))) x → AuditEnds store guards new_names files x []
-    by_outcome files (ended.Refused verdict) s = (sym (due_over core store guards (renamed_limited new_names (limited_from 1 files)) same) ∙ s, refl)
-    by_outcome files (ended.InputTooLong file) s = (sym (due_over core store guards (renamed_limited new_names (limited_from 1 files)) same) ∙ s, refl)
+    by_outcome : (files : List (List ℕ)) (x : Outcome) → Stops (due_from_here (start_over core guards) (overridden_limited overrides (limited_from 1 files))) x → AuditEnds store guards overrides files x []
+    by_outcome files (ended.Refused verdict) s = (sym (due_over core store guards (overridden_limited overrides (limited_from 1 files)) same) ∙ s, refl)
+    by_outcome files (ended.InputTooLong file) s = (sym (due_over core store guards (overridden_limited overrides (limited_from 1 files)) same) ∙ s, refl)
     by_outcome files (ended.TooMuch sum) s = absurd s
     by_outcome files (ended.InputChanged file place) s = absurd s
     by_outcome files ended.InputFault s = refl

@@ -1,4 +1,5 @@
--- Items that are followed one after the other: those that are accepted, and those that are read after a refusal.
+-- Items that are followed one after the other: those that are accepted, and those that are read
+-- after a refusal.
 use Rattle.std.specs.Prelude.{◌≡◌, List, [], ◌∷◌, ◌++◌, Option, None, Some}
 use Rattle.std.proofs.Common.{refl, ap, ◌∙◌}
 use Rattle.send_model.specs.Refusal.{Refusal}

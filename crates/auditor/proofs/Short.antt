@@ -1,4 +1,5 @@
--- The data of a command that a version can say lie in its frame, so they are no longer than the greatest body.
+-- The data of a command that a version can say lie in its frame, so they are no longer than the
+-- greatest body.
 use Rattle.std.specs.Prelude.{ℕ, ◌^◌, ◌≤◌, List, [], ◌++◌, length}
 use Rattle.std.specs.Int.{w16, to_le_bytes}
 use Rattle.std.proofs.Common.{arith, length-append, zero-le}

@@ -1,5 +1,5 @@
--- Steps do not look at cells, so a follower sees each command do what it does over cells that carry nothing; and guards that are
--- asked before the step.
+-- Steps do not look at cells, so a follower sees each command do what it does over cells that carry
+-- nothing; and guards that are asked before the step.
 use Rattle.std.specs.Prelude.{◌≡◌, ℕ, ◌<◌, List, [], ◌∷◌, map, length, Option, None, Some, Result, Ok, Err, slice_index_or}
 use Rattle.std.proofs.Common.{refl, sym, ap, subst, ◌∙◌, arith}
 use Rattle.std.proofs.lemmas.List.{get_or-map}

@@ -1,5 +1,5 @@
--- The commands of files followed under guards, over subvolumes whose cells carry nothing: no step looks at cells, so whatever they
--- are, the same command is refused. This program's own.
+-- The commands of files followed under guards, over subvolumes whose cells carry nothing: no step
+-- looks at cells, so whatever they are, the same command is refused. This program's own.
 use Rattle.std.specs.Prelude.{◌≡◌, ℕ, List, [], ◌∷◌, ◌++◌, map, Option, None, Some}
 use Rattle.send_model.specs.Command.{Command}
 use Rattle.send_model.specs.Reading.{Item}
@@ -8,7 +8,7 @@ use Rattle.send_model.specs.Receive.{Ran, run_by, bytes_of}
 use Rattle.send_model.specs.Guards.{Guard, Watched, watched_step}
 use Rattle.send_model.specs.Cells.{recelled_store}
 use Rattle.send_model.specs.Due.{Due, RefusedAt, Limited, AtEnd, limited_from, stop_due}
-use Rattle.send_model.specs.Renamed.{named_as}
+use Rattle.send_model.specs.Overridden.{Override, overridden_as}
 
 -- A store whose cells carry nothing.
 abbrev pub blank : {C : Type 0} → Store C → Store (Unit {0})
@@ -54,13 +54,13 @@ then_read items more = record { items = items ++ more.items; stop = more.stop }
 abbrev pub file_read : ℕ → List ℕ → Limited
 file_read number bytes = limited_from number (bytes ∷ [])
 
--- Items of a file for which a name is given, with this name for their heads.
-abbrev pub named_items : Option (List ℕ) → List Item → List Item
-named_items name items = map (named_as name) items
+-- Items of a file, with what is said in front of it.
+abbrev pub items_with : Override → List Item → List Item
+items_with said items = map (overridden_as said) items
 
 -- The same of what is read of the file.
-abbrev pub named_read : Option (List ℕ) → Limited → Limited
-named_read name read = record { items = named_items name read.items; stop = read.stop }
+abbrev pub read_with : Override → Limited → Limited
+read_with said read = record { items = items_with said read.items; stop = read.stop }
 
 -- A file of these items, which is read to its end.
 abbrev pub read_whole : List Item → Limited

@@ -18,11 +18,13 @@ use part_names::NamedFiles;
 use std::alloc::{AllocError, Global};
 use sx_base::{Inputs, Outcome, Sink, write_whole};
 
-/// Follows the streams in the files over the subvolumes of `core`, under guards, and receives nothing: `Refused` gives the first
-/// command that would be refused. Each head of a file for which a name is given has it before anything looks at the head. The files
-/// are read once, in order and one command at a time, so a pipe serves. Where all is accepted, `out` gets one line, `accepted PARTS
-/// COMMANDS`, counted over all files with END among the commands; and else nothing. `blank` is the origin of every WRITE; nobody
-/// looks at it. `InputTooLong` comes where a file is too long and no command before its end is refused.
+/// Follows the streams in the files over the subvolumes of `core`, under guards, and receives
+/// nothing: `Refused` gives the first command that would be refused. Each head of a file for which
+/// a name is given has it before anything looks at the head. The files are read once, in order and
+/// one command at a time, so a pipe serves. Where all is accepted, `out` gets one line, `accepted
+/// PARTS COMMANDS`, counted over all files with END among the commands; and else nothing. `blank`
+/// is the origin of every WRITE; nobody looks at it. `InputTooLong` comes where a file is too long
+/// and no command before its end is refused.
 pub fn audit<R: Origin, I: Inputs, O: Sink>(
     given: &NamedFiles<'_>,
     core: EditCore<R>,
@@ -43,7 +45,7 @@ pub fn audit<R: Origin, I: Inputs, O: Sink>(
     ensures audited { (store : meant.Store ℕ) → HaveSameShape core store
         → IfAllTold (I.told inputs.old) (map string_bytes given.now.files.now)
         (λ files. Wrote (O.taken out.old) (O.taken out.new)
-        (AuditEnds store (map (λ g. kept g) guards.old) given.now.names.now files result)) }
+        (AuditEnds store (map (λ g. kept g) guards.old) given.now.overrides.now files result)) }
 {
     let mut follower = Follower::new(core, blank);
     match follow_files(given, &mut follower, guards, inputs) {

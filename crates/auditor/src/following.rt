@@ -1,13 +1,12 @@
 // Following commands: each is looked at by the guards, and then it is one step of the core.
 ghost use Rattle.std.specs.Prelude.{◌≡◌, ◌≤◌, ◌^◌, ℕ, map, None, IfOk, IfErr, IfSome};
-ghost use Rattle.std.specs.Option.{option_copied, option_map};
+ghost use Rattle.std.specs.Option.{option_map};
 ghost use Rattle.send_model.specs.Cells.{recelled};
-ghost use Rattle.send_model.specs.Renamed.{named_as};
+ghost use Rattle.send_model.specs.Overridden.{overridden_as, IsLawfulOverride};
 ghost use Rattle.sx_base.specs.Calls.{IsStop};
 ghost use Rattle.send_commands.specs.Meaning.{meaning_of};
 ghost use Rattle.clone_resolve.specs.Steps.{data_len, done_by, Answers};
 ghost use Rattle.cmd_reader.specs.Next.{item_of};
-ghost use Rattle.part_names.specs.Naming.{IsShort};
 ghost use Rattle.auditor.specs.Following.{blank, blank_step, beside, follow};
 ghost use Rattle.auditor.specs.Answers.{Follows, ItemEnds};
 
@@ -16,7 +15,7 @@ use cmd_reader::Item;
 use extent_map::Origin;
 use guard_rules::{Guard, look_all};
 use inode_tree::Tree;
-use part_names::{NamedFile, given_or, rename};
+use part_names::{NamedFile, given_or, override_item};
 use send_commands::Command;
 use std::marker::Model;
 use sx_base::{Outcome, Refusal, Stop, Verdict};
@@ -106,7 +105,8 @@ fn count_of(guard: &Box<dyn Guard>) -> u64
     guard.used()
 }
 
-// The next command of a file, which is the given one of several: it is accepted, or its outcome ends the audit.
+// The next command of a file, which is the given one of several: it is accepted, or its outcome
+// ends the audit.
 fn follow_item<R: Origin>(
     follower: &mut Follower<R>,
     guards: &mut [Box<dyn Guard>],
@@ -130,7 +130,7 @@ fn follow_item<R: Origin>(
     }
 }
 
-// The same, with the name that is given for the parts of the file.
+// The same, with what is said in front of the file.
 pub(crate) fn follow_named<R: Origin>(
     file: &NamedFile<'_>,
     follower: &mut Follower<R>,
@@ -138,13 +138,13 @@ pub(crate) fn follow_named<R: Origin>(
     item: &Item<'_>,
 ) -> Result<Done, Outcome>
     requires short { data_len (meaning_of item.now.command) ≤ 2 ^ 18 }
-    requires name_fits { IfSome (option_copied file.now.new_name) IsShort }
+    requires lawful { IsLawfulOverride file.now.said.now }
     ensures stops { IfErr result IsStop }
     ensures followed { ItemEnds (beside (map (λ g. kept g) guards.old) follower.old)
         (beside (map (λ g. kept g) guards.new) follower.new)
-        (named_as (option_copied file.now.new_name) (item_of file.now.number item.now)) result }
+        (overridden_as file.now.said.now (item_of file.now.number item.now)) result }
 {
-    let renamed = rename(file.new_name, item);
-    let named = given_or(item, &renamed);
-    follow_item(follower, guards, file.number, named)
+    let changed = override_item(file.said, item);
+    let meant = given_or(item, &changed);
+    follow_item(follower, guards, file.number, meant)
 }

@@ -1,5 +1,5 @@
-// btrsend once more, which the gate runs on a chain that is checked under guards: without the guards that the words give, the words
-// would mean nothing.
+// btrsend once more, which the gate runs on a chain that is checked under guards: without the
+// guards that the words give, the words would mean nothing.
 #![tactic(auto)]
 
 use host_io::start;

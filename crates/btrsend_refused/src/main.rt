@@ -1,5 +1,5 @@
-// btrsend once more, which the gate runs on a chain that is refused: its status is that of the refusal, and standard output
-// has the commands before it alone.
+// btrsend once more, which the gate runs on a chain that is refused: its status is that of the
+// refusal, and standard output has the commands before it alone.
 #![tactic(auto)]
 
 use host_io::start;

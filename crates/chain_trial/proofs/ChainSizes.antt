@@ -1,4 +1,5 @@
--- How long a chain is, how many bytes its clones put, and how many commands stand for it where it is composed.
+-- How long a chain is, how many bytes its clones put, and how many commands stand for it where it
+-- is composed.
 use Rattle.std.specs.Prelude.{◌≡◌, ℕ, zero, suc, ◌+◌, ◌*◌, ◌≤◌, Bool, true, false, List, [], ◌∷◌, ◌++◌, map, length, take, drop, Option, None, Some, Result, Ok, Err, if◌then◌else◌}
 use Rattle.std.specs.List.{sum_by, flat_map, AllByRecursion}
 use Rattle.std.proofs.Common.{refl, sym, ap, ◌∙◌, arith, length-append, zero-le}

@@ -1,4 +1,5 @@
--- A chain that is composed over no base comes to a whole end: it is short, nothing of it is refused, and its clones put few bytes.
+-- A chain that is composed over no base comes to a whole end: it is short, nothing of it is
+-- refused, and its clones put few bytes.
 use Rattle.std.specs.Prelude.{◌≡◌, ℕ, ◌*◌, ◌<◌, ◌≤◌, Bool, true, false, ◌&&◌, List, [], ◌∷◌, ◌++◌, length, take, Option, None, Some, if◌then◌else◌}
 use Rattle.std.specs.List.{flat_map, AllByRecursion}
 use Rattle.std.proofs.Common.{refl, sym, ap, subst, ◌∙◌, arith, length-append, zero-le}

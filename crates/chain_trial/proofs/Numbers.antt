@@ -1,4 +1,5 @@
--- What is counted of a chain as one file, and of the stream that it is composed to, are the numbers of its trial.
+-- What is counted of a chain as one file, and of the stream that it is composed to, are the numbers
+-- of its trial.
 use Rattle.std.specs.Prelude.{◌≡◌, ℕ, ◌+◌, ◌≤◌, ◌==◌, Bool, false, List, [], ◌∷◌, ◌++◌, map, length, Option, None, if◌then◌else◌}
 use Rattle.std.specs.List.{list_any, flat_map, AllByRecursion}
 use Rattle.std.proofs.Common.{refl, sym, ap, ap₂, subst, ◌∙◌, append-nil}

@@ -1,4 +1,5 @@
--- What is composed from items, and which ranges their redirected clones put, is decided by their commands alone.
+-- What is composed from items, and which ranges their redirected clones put, is decided by their
+-- commands alone.
 use Rattle.std.specs.Prelude.{◌≡◌, ℕ, suc, List, [], ◌∷◌, ◌++◌, map, length, Option, None, Some, if◌then◌else◌}
 use Rattle.std.proofs.Common.{refl, ap, ◌∙◌}
 use Rattle.send_model.specs.Command.{Command, End}

@@ -10,16 +10,16 @@ use Rattle.send_model.specs.Generated.{chain_of, trial_line}
 use Rattle.send_model.specs.Headline.{IsComposed, IsComposedOf, whole_output}
 use Rattle.send_model.specs.Due.{Due, DoneWhole, RefusedAt, TooLong, TooMuch, compose_due}
 use Rattle.send_model.specs.Words.{Compose, Gen, Trial, due, whole_of, EndSays, StandsBefore, StandsCut}
-use Rattle.send_model.specs.Renamed.{Names}
+use Rattle.send_model.specs.Overridden.{Overrides}
 use Rattle.send_model.specs.Sources.{Sources, sources, due_of, whole_from, EndSaysOf, StandsBeforeOf, StandsCutOf}
-use Rattle.send_model.proofs.SourceLaws.{no_names_change_nothing}
+use Rattle.send_model.proofs.SourceLaws.{no_overrides_change_nothing}
 use Rattle.sx_base.specs.Outside.{AppendsPart, file_at}
 use Rattle.sx_base.specs.Causes.{counts}
 use Rattle.sx_base.specs.Refusals.{verdict_meant}
 use Rattle.sx_base.specs.Calls.{IfAllTold, Wrote, Ends, EndsAs, Caused, CausedAgain}
 use Rattle.sx_base.specs.declared.outcome.Outcome.{Outcome}
 use Rattle.sx_base.specs.declared.outcome.Outcome.TheVariants as ended
-use Rattle.part_names.specs.Naming.{sources_named}
+use Rattle.part_names.specs.Overriding.{sources_with}
 use Rattle.composer.specs.Files.{ComposeEnds}
 use Rattle.chain_trial.specs.declared.counting.Counted.{Counted}
 use Rattle.chain_trial.specs.declared.trying.Numbers.{Numbers}
@@ -61,17 +61,17 @@ told_alone table names chain P table_is names_are told =
     subst (λ (bytes : List ℕ). P (bytes ∷ [])) (found chain) at
 
 -- The chain's parts keep their names.
-read_plain : (given : Names) (chain : List ℕ) → given ≡ [] → sources_named given (chain ∷ []) ≡ sources (chain ∷ [])
-read_plain given chain no_names = ap (λ (ns : Names). sources_named ns (chain ∷ [])) no_names ∙ no_names_change_nothing (sources (chain ∷ []))
+read_plain : (given : Overrides) (chain : List ℕ) → given ≡ [] → sources_with given (chain ∷ []) ≡ sources (chain ∷ [])
+read_plain given chain no_names = ap (λ (ns : Overrides). sources_with ns (chain ∷ [])) no_names ∙ no_overrides_change_nothing (sources (chain ∷ []))
 
-pub composed_written : (table : List (List ℕ × List ℕ)) (names : List (List ℕ)) (given : Names) (chain old new : List ℕ) (outcome : Outcome) → table ≡ alone chain → names ≡ codes "chain" ∷ [] → given ≡ [] → old ≡ [] → outcome ≡ ended.Done
+pub composed_written : (table : List (List ℕ × List ℕ)) (names : List (List ℕ)) (given : Overrides) (chain old new : List ℕ) (outcome : Outcome) → table ≡ alone chain → names ≡ codes "chain" ∷ [] → given ≡ [] → old ≡ [] → outcome ≡ ended.Done
     → IfAllTold (Some table) names (λ told. Wrote (Some old) (Some new) (ComposeEnds [] given told outcome)) → IsDone chain new
 composed_written table names given chain old new outcome table_is names_are no_names none done wrote =
     let Here : List (List ℕ) → List ℕ → Outcome → Type 0 = λ told o x. Wrote (Some o) (Some new) (ComposeEnds [] given told x) in
     let named : Here (chain ∷ []) old outcome = told_alone table names chain (λ told. Here told old outcome) table_is names_are wrote in
     let w : Here (chain ∷ []) [] ended.Done = subst (λ (x : Outcome). Here (chain ∷ []) [] x) done (subst (λ (o : List ℕ). Here (chain ∷ []) o outcome) none named) in
     let is : new ≡ w.0 = w.1 in
-    let read : sources_named given (chain ∷ []) ≡ sources (chain ∷ []) = read_plain given chain no_names in
+    let read : sources_with given (chain ∷ []) ≡ sources (chain ∷ []) = read_plain given chain no_names in
     record {
       due_is = subst (λ (r : Sources). due_of (Compose 1 2) [] r ≡ DoneWhole) read w.2.ends.0;
       all = is ∙ subst (λ (r : Sources). w.0 ≡ whole_from (Compose 1 2) [] r) read w.2.ends.1;
@@ -116,14 +116,14 @@ unfolding due
 chain_in_memory seed count old new f0 f1 outcome cause wrote =
     ends_in_memory (due (Gen count seed) [] []) (EndSays (Gen count seed) [] []) (StandsBefore (Gen count seed) [] []) (StandsCut (Gen count seed) [] []) f0 f1 outcome wrote.0 refl (once_again f0 f1 outcome cause) wrote.2
 
-pub composed_in_memory : (seed count : ℕ) → 1 ≤ count → count ≤ 4_096 → (table : List (List ℕ × List ℕ)) (names : List (List ℕ)) (given : Names) (chain old new : List ℕ) (f0 f1 : ℕ) (outcome : Outcome) → chain ≡ chain_of seed count
+pub composed_in_memory : (seed count : ℕ) → 1 ≤ count → count ≤ 4_096 → (table : List (List ℕ × List ℕ)) (names : List (List ℕ)) (given : Overrides) (chain old new : List ℕ) (f0 f1 : ℕ) (outcome : Outcome) → chain ≡ chain_of seed count
     → table ≡ alone chain → names ≡ codes "chain" ∷ [] → given ≡ [] → CausedAgain (counts 0 0 f0) (counts 0 0 f1) outcome
     → IfAllTold (Some table) names (λ told. Wrote (Some old) (Some new) (ComposeEnds [] given told outcome)) → EndsInMemory outcome
 composed_in_memory seed count some few table names given chain old new f0 f1 outcome is table_is names_are no_names cause wrote =
     let w : Wrote (Some old) (Some new) (ComposeEnds [] given (chain ∷ []) outcome) = told_alone table names chain (λ told. Wrote (Some old) (Some new) (ComposeEnds [] given told outcome)) table_is names_are wrote in
-    let whole : due_of (Compose 1 2) [] (sources_named given (chain ∷ [])) ≡ DoneWhole =
+    let whole : due_of (Compose 1 2) [] (sources_with given (chain ∷ [])) ≡ DoneWhole =
     ap (due_of (Compose 1 2) []) (read_plain given chain no_names) ∙ ap (λ (c : List ℕ). compose_due [] (c ∷ [])) is ∙ chain_due seed count some few in
-    let read : Sources = sources_named given (chain ∷ []) in
+    let read : Sources = sources_with given (chain ∷ []) in
     ends_in_memory (due_of (Compose 1 2) [] read) (EndSaysOf (Compose 1 2) [] read) (StandsBeforeOf (Compose 1 2) [] read) (StandsCutOf (Compose 1 2) [] read) f0 f1 outcome w.0 whole cause w.2.ends
 
 -- The file was counted.

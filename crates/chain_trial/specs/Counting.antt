@@ -18,7 +18,8 @@ pub record FileCounted (counted : Counted) (bytes : List ℕ) : Type 0 where
   pub whole : (reads 1 bytes).end ≡ Whole
   pub counts : AreCounted counted (commands_of (reads 1 bytes).items)
 
--- A file is read whole, it ends before the limit, and its writes carry no more bytes than 64 bits count.
+-- A file is read whole, it ends before the limit, and its writes carry no more bytes than 64 bits
+-- count.
 pub record IsCountable (bytes : List ℕ) : Type 0 where
   pub whole : (reads 1 bytes).end ≡ Whole
   pub short : length bytes < limit

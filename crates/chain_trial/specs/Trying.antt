@@ -17,7 +17,8 @@ pub record AreNumbers (seed count : ℕ) (numbers : Numbers) : Type 0 where
   pub clones_are : numbers.clones ≡ clones (trial_composed seed count)
   pub redirected : numbers.redirected ≡ uncarried_in [] (ranges_of [] (chain_items seed count))
 
--- A call whose output stands in memory has done all, or there was no memory: nothing else stops it, and the output fails for this alone.
+-- A call whose output stands in memory has done all, or there was no memory: nothing else stops it,
+-- and the output fails for this alone.
 abbrev pub EndsInMemory : Outcome → Type 0
 EndsInMemory ended.Done = ⊤
 EndsInMemory ended.NoMemory = ⊤

@@ -72,8 +72,9 @@ fn bytes_in(command: &Command<'_>) -> u64
     }
 }
 
-/// Counts the commands of a file in memory that can be read to a whole end. An error is for want of memory: it is the reader's room
-/// that there is none for. Once the reader is made it takes no memory, and no such file stops it.
+/// Counts the commands of a file in memory that can be read to a whole end. An error is for want of
+/// memory: it is the reader's room that there is none for. Once the reader is made it takes no
+/// memory, and no such file stops it.
 pub(crate) fn count_file(
     alloc: Global,
     inputs: &mut PlainInputs,

@@ -10,7 +10,7 @@ ghost use Rattle.chain_trial.specs.Trying.{AreNumbers, EndsInMemory, line_text};
 use crate::counting::count_file;
 use composer::compose;
 use itoa::Buffer;
-use part_names::PartNames;
+use part_names::Overrides;
 use std::alloc::{AllocError, Global};
 use stream_gen::write_chain;
 use sx_base::{Blob, MemSink, Outcome, PlainInputs, Sink, write_whole};
@@ -28,9 +28,10 @@ pub(crate) struct Numbers {
     pub(crate) redirected: u64,
 }
 
-/// Composes a chain of so many parts, 1 to 4096, over no store, and writes one line of what came of it: `trial PARTS COMMANDS IN
-/// OUT CLONES REDIRECTED`, which are the parts, commands and bytes of the chain, the bytes of the composed stream and its clones,
-/// and how many of its bytes stand for redirected clones. The chain and the stream stand in memory.
+/// Composes a chain of so many parts, 1 to 4096, over no store, and writes one line of what came of
+/// it: `trial PARTS COMMANDS IN OUT CLONES REDIRECTED`, which are the parts, commands and bytes of
+/// the chain, the bytes of the composed stream and its clones, and how many of its bytes stand for
+/// redirected clones. The chain and the stream stand in memory.
 pub fn write_trial<O: Sink>(alloc: Global, count: u64, seed: u64, out: &mut O) -> Outcome
     requires some { 1 ≤ count }
     requires few { count ≤ 4_096 }
@@ -95,7 +96,7 @@ fn numbers_of(alloc: Global, count: u64, seed: u64) -> Result<Numbers, AllocErro
     let mut inputs = file_of(alloc, chain.bytes())?;
     let names = names_of(alloc)?;
     let mut composed = MemSink::new(alloc);
-    let kept = PartNames::none(alloc);
+    let kept = Overrides::none(alloc);
     all_done(compose(alloc, &mut inputs, &names, &kept, &mut composed))?;
     let read = count_file(alloc, &mut inputs, NAME)?;
     let mut outputs = file_of(alloc, composed.bytes())?;
@@ -109,8 +110,8 @@ fn numbers_of(alloc: Global, count: u64, seed: u64) -> Result<Numbers, AllocErro
     })
 }
 
-// Whether all was done. A chain is lawful and short, files in memory do not fail, and an output in memory of which no call is to fail
-// does so for want of memory alone.
+// Whether all was done. A chain is lawful and short, files in memory do not fail, and an output in
+// memory of which no call is to fail does so for want of memory alone.
 fn all_done(outcome: Outcome) -> Result<(), AllocError>
     requires { EndsInMemory outcome }
     ensures { OnOk result (outcome ≡ ended.Done) }

@@ -53,7 +53,8 @@ stops_then a b c old mid new x y z all (stop.InputChanged file place) is g f = a
 pub part_none : (out : Option (List ℕ)) (pending bytes : List ℕ) → GoesPart out out pending pending bytes
 part_none out pending bytes = record { count = 0; within = omega arith; goes = goes_none out pending }
 
--- All came behind what was pending, and nothing was written of it but what went out as the output failed.
+-- All came behind what was pending, and nothing was written of it but what went out as the output
+-- failed.
 pub all_breaks : (old new : Option (List ℕ)) (pending left bytes : List ℕ) → AppendsPart old new (pending ++ bytes) → left ≡ pending ++ bytes → BreaksOff old new pending left bytes
 all_breaks old new pending left bytes failed is = record {
   before = old;

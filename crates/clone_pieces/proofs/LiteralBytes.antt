@@ -1,5 +1,5 @@
--- The bytes of the literal pieces of a range are those that stand at their places in it, so a piece needs no bytes of its own: they
--- can be read again. (Of the definitions alone.)
+-- The bytes of the literal pieces of a range are those that stand at their places in it, so a piece
+-- needs no bytes of its own: they can be read again. (Of the definitions alone.)
 use Rattle.std.specs.Prelude.{◌≡◌, ◌≤◌, ℕ, zero, suc, ◌+◌, Bool, true, false, List, [], ◌∷◌, ◌++◌, map, length, take, drop, Option, None, Some, if◌then◌else◌}
 use Rattle.std.specs.List.{AllByRecursion, flat_map}
 use Rattle.std.proofs.Common.{refl, sym, ap, ap₂, subst, ◌∙◌, arith}

@@ -1,4 +1,5 @@
--- The pieces of a range stand one behind the other, and their runs come from files that a path names.
+-- The pieces of a range stand one behind the other, and their runs come from files that a path
+-- names.
 use Rattle.std.specs.Prelude.{◌≡◌, ℕ, ◌+◌, ◌≤◌, Bool, true, false, ◌&&◌, IsTrue, is_some, List, [], ◌∷◌, ◌++◌, map, length, Option, Some, None, if◌then◌else◌}
 use Rattle.std.specs.List.{AllByRecursion, sum_by, flat_map}
 use Rattle.std.proofs.Common.{refl, sym, ap, ap₂, subst, ◌∙◌, arith}

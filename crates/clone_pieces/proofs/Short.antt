@@ -1,4 +1,5 @@
--- A WRITE and a CLONE can be spelled in either version where their paths are short, and a WRITE where it has at most 49,152 bytes.
+-- A WRITE and a CLONE can be spelled in either version where their paths are short, and a WRITE
+-- where it has at most 49,152 bytes.
 use Rattle.std.specs.Prelude.{ℕ, ◌+◌, ◌<◌, ◌≤◌, ◌^◌, ◌==◌, Bool, true, false, List, [], ◌∷◌, length}
 use Rattle.std.proofs.Common.{arith, length-append, zero-le}
 use Rattle.send_model.specs.Command.{Command, Write, Clone, row}

@@ -1,4 +1,5 @@
--- The bytes of cells where they are read: in input files, and in files of complete subvolumes that are held. This program's own.
+-- The bytes of cells where they are read: in input files, and in files of complete subvolumes that
+-- are held. This program's own.
 use Rattle.std.specs.Prelude.{◌≡◌, ⊤, ℕ, ◌+◌, ◌<◌, ◌≤◌, List, [], map, length, get_or, Option, None, Some, Result, Ok, Err}
 use Rattle.send_model.specs.Store as meant
 use Rattle.sx_base.specs.Again.{FillsFrom}
@@ -33,7 +34,8 @@ PieceThere None len files = ⊤
 PieceThere (Some (Fresh file at)) len files = (at + len ≤ length (get_or files file [])) × ((k : ℕ) → k < len → IsData (file + 1) (get_or files file []) (at + k))
 PieceThere (Some (Outside key ino at)) len files = ⊤
 
--- The buffer has the bytes of the cells, or an object of the outside failed. Inputs that tell are not found changed.
+-- The buffer has the bytes of the cells, or an object of the outside failed. Inputs that tell are
+-- not found changed.
 abbrev pub FillEnd : (meant.Key → ℕ → List ℕ) → List (Option Trace) → List ℕ → Result (Unit {0}) SendStop → List (List ℕ) → Type 0
 FillEnd held cells new (Ok done) files = new ≡ map (byte_in held files) cells
 FillEnd held cells new (Err stop.InputFault) files = ⊤
@@ -41,7 +43,8 @@ FillEnd held cells new (Err stop.OutputFault) files = ⊥
 FillEnd held cells new (Err stop.NoMemory) files = ⊥
 FillEnd held cells new (Err (stop.InputChanged file place)) files = ⊥
 
--- The buffer has bytes of a named file from a place on, or the inputs failed. Inputs that tell are not found changed.
+-- The buffer has bytes of a named file from a place on, or the inputs failed. Inputs that tell are
+-- not found changed.
 abbrev pub AgainEnd : Option (List (List ℕ × List ℕ)) → List ℕ → ℕ → List ℕ → Result (Unit {0}) SendStop → Type 0
 AgainEnd told name at new (Ok done) = FillsFrom told name at new
 AgainEnd told name at new (Err stop.InputFault) = ⊤

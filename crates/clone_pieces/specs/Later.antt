@@ -1,4 +1,5 @@
--- What calls leave of what has the bytes of a base: no count falls, and where all was done that was asked, none has risen. This program's own.
+-- What calls leave of what has the bytes of a base: no count falls, and where all was done that was
+-- asked, none has risen. This program's own.
 use Rattle.std.specs.Prelude.{◌≡◌, ◌≤◌, Result}
 use Rattle.sx_base.specs.Causes.{Steady}
 use Rattle.clone_pieces.specs.declared.outside.OutsideBytes as holding

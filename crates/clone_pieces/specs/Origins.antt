@@ -1,5 +1,5 @@
--- Which byte a traced cell has, and where it lies: in an input file, or in a file of a complete subvolume of the base. This
--- program's own.
+-- Which byte a traced cell has, and where it lies: in an input file, or in a file of a complete
+-- subvolume of the base. This program's own.
 use Rattle.std.specs.Prelude.{◌≡◌, ℕ, ◌+◌, ◌<◌, List, [], length, get_or, Option, None, Some}
 use Rattle.send_model.specs.Clone.{cells_of}
 use Rattle.send_model.specs.Store as meant

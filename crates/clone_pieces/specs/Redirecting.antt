@@ -25,8 +25,9 @@ seen_cells files base cells = map (seen (byte_of_trace files base) place_of) cel
 abbrev pub pieces_spelled : ℕ → Store ℕ → List ℕ → ℕ → List Traced → List ℕ
 pieces_spelled version base path offset range = canonical_all version (flat_map (piece_commands base path offset) (pieces_of base range))
 
--- The bytes go out, or an object of the outside failed, or there is no memory; then a front part of them came behind what was pending,
--- and of both a front part was written, and the rest is pending. Inputs that tell are not found changed.
+-- The bytes go out, or an object of the outside failed, or there is no memory; then a front part of
+-- them came behind what was pending, and of both a front part was written, and the rest is pending.
+-- Inputs that tell are not found changed.
 abbrev pub RedirectEnd : Option (List ℕ) → Option (List ℕ) → (old new bytes : List ℕ) → Result (Unit {0}) SendStop → Type 0
 RedirectEnd out_old out_new old new bytes (Ok done) = GoesOut out_old out_new old new bytes
 RedirectEnd out_old out_new old new bytes (Err stop.OutputFault) = BreaksOff out_old out_new old new bytes
@@ -34,7 +35,8 @@ RedirectEnd out_old out_new old new bytes (Err stop.InputFault) = GoesPart out_o
 RedirectEnd out_old out_new old new bytes (Err stop.NoMemory) = GoesPart out_old out_new old new bytes
 RedirectEnd out_old out_new old new bytes (Err (stop.InputChanged file place)) = ⊥
 
--- A fault is the cause only where the count of its object rose, and an input is found changed only where the count of ends rose.
+-- A fault is the cause only where the count of its object rose, and an input is found changed only
+-- where the count of ends rose.
 abbrev pub RedirectCaused : (before now : Counts) → Result (Unit {0}) SendStop → Type 0
 RedirectCaused before now (Ok done) = ⊤
 RedirectCaused before now (Err why) = CausedAgain before now (outcome_with why)

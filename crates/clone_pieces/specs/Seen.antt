@@ -4,7 +4,8 @@ use Rattle.send_model.specs.Store.{State}
 use Rattle.send_model.specs.Provenance.{Place, Traced, fresh}
 use Rattle.send_model.specs.Cells.{recelled_state}
 
--- Where each origin has a byte and perhaps an outside place. A cell without an origin is a zero byte that comes from nowhere.
+-- Where each origin has a byte and perhaps an outside place. A cell without an origin is a zero
+-- byte that comes from nowhere.
 abbrev pub seen : {O : Type 0} → (O → ℕ) → (O → Option Place) → Option O → Traced
 seen byte place None = fresh 0
 seen byte place (Some origin) = record { byte = byte origin; place = place origin }

@@ -1,4 +1,5 @@
--- Bytes on their way to the output: what of them was written, and what is pending. This program's own.
+-- Bytes on their way to the output: what of them was written, and what is pending. This program's
+-- own.
 use Rattle.std.specs.Prelude.{◌≡◌, ℕ, ◌≤◌, List, [], ◌++◌, length, take, Option, Result, Ok, Err}
 use Rattle.std.specs.Io.KnownBytes.{Appends}
 use Rattle.sx_base.specs.Causes.{Rose}
@@ -14,7 +15,8 @@ pub record GoesOut (out_old out_new : Option (List ℕ)) (old new bytes : List �
   pub appends : Appends out_old out_new sent
   pub rest : old ++ bytes ≡ sent ++ new
 
--- Of the bytes a front part came behind what was pending: of both a front part was written, and the rest is pending.
+-- Of the bytes a front part came behind what was pending: of both a front part was written, and the
+-- rest is pending.
 pub record GoesPart (out_old out_new : Option (List ℕ)) (old new bytes : List ℕ) : Type 0 where
   pub count : ℕ
   pub within : count ≤ length bytes
@@ -32,7 +34,8 @@ pub record AppendsFront (old new : Option (List ℕ)) (bytes : List ℕ) : Type 
   pub within : count ≤ length bytes
   pub appends : Appends old new (take count bytes)
 
--- An output: the bytes that it took, where it tells, those that are pending, and the count of its faults.
+-- An output: the bytes that it took, where it tells, those that are pending, and the count of its
+-- faults.
 pub record Output : Type 0 where
   pub taken : Option (List ℕ)
   pub pending : List ℕ
@@ -41,8 +44,8 @@ pub record Output : Type 0 where
 abbrev pub output : {O : Type 0} → writing.Ghosts O → O → List ℕ → Output
 output out now pending = record { taken = out.taken now; pending = pending; faults = out.faults now }
 
--- Bytes go out; or the output failed, and a proper front part of what was pending and of them was written, and all of it is pending;
--- or there is no memory, and nothing changed.
+-- Bytes go out; or the output failed, and a proper front part of what was pending and of them was
+-- written, and all of it is pending; or there is no memory, and nothing changed.
 abbrev pub PutEnd : (old new : Output) (bytes : List ℕ) → Result (Unit {0}) SendStop → Type 0
 PutEnd old new bytes (Ok done) = GoesOut old.taken new.taken old.pending new.pending bytes
 PutEnd old new bytes (Err stop.OutputFault) = Rose old.faults new.faults × AppendsPart old.taken new.taken (old.pending ++ bytes) × (new.pending ≡ old.pending ++ bytes)

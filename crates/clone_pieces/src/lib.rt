@@ -1,4 +1,5 @@
-//! What stands for a clone from an earlier part: clones of outside files, and writes of other bytes, which are read again.
+//! What stands for a clone from an earlier part: clones of outside files, and writes of other
+//! bytes, which are read again.
 #![tactic(auto)]
 
 mod filling;

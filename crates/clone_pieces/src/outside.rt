@@ -34,8 +34,8 @@ pub trait Known: Ends {
 
 /// The bytes of the files of complete subvolumes.
 pub trait OutsideBytes {
-    /// Holds where reads give the bytes that are held. Of what does not tell, as files on a real disk, only their
-    /// lengths are known.
+    /// Holds where reads give the bytes that are held. Of what does not tell, as files on a real
+    /// disk, only their lengths are known.
     ghost tells: { Type 0 };
 
     /// The bytes of each file, by its subvolume and its inode number.
@@ -43,7 +43,8 @@ pub trait OutsideBytes {
 
     ghost faults: { Self → ℕ };
 
-    /// Fills the buffer with the bytes of a file from the place `at` on. `Failed` comes only where the count of faults rose.
+    /// Fills the buffer with the bytes of a file from the place `at` on. `Failed` comes only where
+    /// the count of faults rose.
     fn fill(&mut self, key: Key, ino: u64, at: u64, buf: &mut [u8]) -> Result<(), Failed>
         requires within { at + length buf.old ≤ length (held self.old (key_of key) ino) }
         ensures sizes { AreAsLong (held self.new) (held self.old) }

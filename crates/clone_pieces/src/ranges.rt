@@ -27,8 +27,8 @@ pub struct CellRange<'a> {
     pub len: u64,
 }
 
-/// What cells are traced to: input files, by their names, and subvolumes outside, by what is known of them. And where memory
-/// comes from.
+/// What cells are traced to: input files, by their names, and subvolumes outside, by what is known
+/// of them. And where memory comes from.
 #[derive(Debug, Drop)]
 pub struct Sources<'a, E> {
     /// Where memory comes from.

@@ -88,7 +88,8 @@ fn len_of(plan: &Plan) -> u64
     }
 }
 
-/// Writes what stands for a clone of the cells of a range. Which bytes these are is said where `bytes` tells.
+/// Writes what stands for a clone of the cells of a range. Which bytes these are is said where
+/// `bytes` tells.
 pub fn redirect<'a, I: Inputs, E: Known, B: OutsideBytes, O: Sink>(
     range: &CellRange<'a>,
     sources: &Sources<'a, E>,

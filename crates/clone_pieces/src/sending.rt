@@ -13,7 +13,8 @@ use sx_base::{Blob, Failed, Sink, write_whole};
 // How many bytes are gathered before they are written.
 const PIECE: usize = 65_536;
 
-/// Adds a command's canonical spelling to what is pending, and writes what is pending where it is 65,536 bytes or more.
+/// Adds a command's canonical spelling to what is pending, and writes what is pending where it is
+/// 65,536 bytes or more.
 pub fn put<O: Sink>(
     c: &Command<'_>,
     version: u32,

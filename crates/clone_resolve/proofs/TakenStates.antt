@@ -1,4 +1,5 @@
--- What a taken step says of a state: whose part it is afterwards, which cells it has, and where the cells of a clone come from.
+-- What a taken step says of a state: whose part it is afterwards, which cells it has, and where the
+-- cells of a clone come from.
 use Rattle.std.specs.Prelude.{◌≡◌, ℕ, ◌+◌, Bool, true, false, List, [], ◌∷◌, map, take, drop, Option, None, Some, Result, Ok, Err, IfSome, if◌then◌else◌}
 use Rattle.std.specs.Option.{option_map}
 use Rattle.std.specs.List.{AllByRecursion}
@@ -198,7 +199,8 @@ module _ {C : Type 0} (P : C → Type 0) where
         subst Kept (sym (plain_step_edit zero_cell put state c h))
         (edit_cells c (λ part s own e. edit_holds P zero_cell put c part.subvolume s zero_good put_good own (sym (plain_edit_part zero_cell put state.store part c h) ∙ e)))
 
-  -- What holds of all cells, of the zero cell and of those that are put holds of all cells after a step that is taken.
+  -- What holds of all cells, of the zero cell and of those that are put holds of all cells after a
+  -- step that is taken.
   pub cells_after_step : (zero_cell : C) (put : List C) (state : State C) (c : Command) → P zero_cell → AllByRecursion P put → AllCells P state
       → (step zero_cell put state c).refusal ≡ None → AllCells P (step zero_cell put state c).state
   cells_after_step zero_cell put state c z p a =
@@ -319,7 +321,8 @@ module _ {C : Type 0} (zero_cell : C) (put : List C) (state : State C) where
         let s = source_there own.subvolume (clone_source state.store own key) (bytes_eq key.uuid own.key.uuid) path offset clone_path from len a.0 a.1 in
         ranged_by own m.1 other s.0 s.1 a.0 a.1
 
-    -- A clone that is taken and does not name its own part copies from a file of a complete subvolume.
+    -- A clone that is taken and does not name its own part copies from a file of a complete
+    -- subvolume.
     pub taken_from : TakenFrom state (step zero_cell put state (Clone path offset key.uuid key.ctransid clone_path from len)).state offset (taken_range key clone_path from len)
     taken_from =
         let r = ranged in

@@ -1,4 +1,5 @@
--- What a command leaves of the core and of the part, by the definition of a step. Source: this program's own.
+-- What a command leaves of the core and of the part, by the definition of a step. Source: this
+-- program's own.
 use Rattle.std.specs.Prelude.{◌≡◌, ℕ, Bool, true, false, ◌&&◌, List, length, Option, None, Some, Result, Ok, Err, IsTrue, is_none}
 use Rattle.std.specs.List.{list_any}
 use Rattle.send_model.specs.Command as meant
@@ -55,7 +56,8 @@ abbrev pub Fits : {C : Type 0} → Store C → Option (Part C) → Type 0
 Fits store None = Unit {0}
 Fits store (Some part) = IsTrue (list_any (is_open part.key) store)
 
--- An answer is that of a step: it is taken, or it is refused for the step's reason. Nothing is said where there is no memory.
+-- An answer is that of a step: it is taken, or it is refused for the step's reason. Nothing is said
+-- where there is no memory.
 abbrev pub Answers : {A C : Type 0} → Result A Stop → State C → Stepped C → Type 0
 Answers (Ok _) new stepped = stepped ≡ record { state = new; refusal = None }
 Answers (Err (stop.Refused refusal)) new stepped = stepped ≡ record { state = new; refusal = Some (refusal_of refusal) }

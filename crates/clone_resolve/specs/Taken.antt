@@ -5,7 +5,8 @@ use Rattle.send_model.specs.Edit.{greatest_end}
 use Rattle.send_model.specs.Clone.{cells_of}
 use Rattle.send_model.specs.Store.{Key, State, find}
 
--- A range that a clone takes: the key of the subvolume, the path of the file in it, the place of its first cell, and how many it has.
+-- A range that a clone takes: the key of the subvolume, the path of the file in it, the place of
+-- its first cell, and how many it has.
 pub record TakenRange : Type 0 where
   pub key : Key
   pub path : List ℕ
@@ -15,8 +16,8 @@ pub record TakenRange : Type 0 where
 abbrev pub taken_range : (key : Key) (path : List ℕ) (from len : ℕ) → TakenRange
 taken_range key path from len = record { key = key; path = path; from = from; len = len }
 
--- Where the cells come from that a clone puts at the place `offset` of a file: a range of a file of a complete subvolume of the store,
--- which stays as it was.
+-- Where the cells come from that a clone puts at the place `offset` of a file: a range of a file of
+-- a complete subvolume of the store, which stays as it was.
 pub record TakenFrom {C : Type 0} (state after : State C) (offset : ℕ) (range : TakenRange) : Type 0 where
   pub source : Subvolume C
   pub ino : ℕ

@@ -35,8 +35,8 @@ struct Source<'a> {
     range: SourceRange<'a>,
 }
 
-/// The subvolumes that were received, in the order in which they began, seen as the store of the definitions over cells that are
-/// an origin or zero.
+/// The subvolumes that were received, in the order in which they began, seen as the store of the
+/// definitions over cells that are an origin or zero.
 #[derive(Debug, Drop)]
 pub struct EditCore<O: Origin> {
     catalog: Catalog<Subvol<O>>,
@@ -63,8 +63,8 @@ impl<O: Origin> EditCore<O> {
         }
     }
 
-    /// The subvolumes by name and by key. No name and no UUID stands twice among them, and their names are lawful. Takes no
-    /// memory.
+    /// The subvolumes by name and by key. No name and no UUID stands twice among them, and their
+    /// names are lawful. Takes no memory.
     pub fn catalog(&self) -> &Catalog<Subvol<O>>
         ensures core { result.now ≡ self.now }
         ensures apart { IsStore self.now }
@@ -74,14 +74,16 @@ impl<O: Origin> EditCore<O> {
         &self.catalog
     }
 
-    /// Takes out the entry of a UUID, if there is one. The others keep their order. Takes no memory.
+    /// Takes out the entry of a UUID, if there is one. The others keep their order. Takes no
+    /// memory.
     pub fn hide(&mut self, uuid: Uuid)
         ensures { self.new ≡ without_uuid uuid self.old }
     {
         let _there = self.catalog.drop_uuid(uuid);
     }
 
-    /// Takes out the entry of a name, and answers whether there was one. The others keep their order. Takes no memory.
+    /// Takes out the entry of a name, and answers whether there was one. The others keep their
+    /// order. Takes no memory.
     pub fn drop_name(&mut self, name: &[u8]) -> bool
         ensures there { result ≡ has_name name.now self.old }
         ensures dropped { self.new ≡ without_name name.now self.old }
@@ -89,10 +91,12 @@ impl<O: Origin> EditCore<O> {
         self.catalog.drop_name(name)
     }
 
-    /// Adds an entry behind the others, unfinished where it has no subvolume. The parent is not looked at.
+    /// Adds an entry behind the others, unfinished where it has no subvolume. The parent is not
+    /// looked at.
     ///
     /// # Errors
-    /// `BadName`, `NameThere` and `UuidThere`: the first of these that holds. After an error nothing is changed.
+    /// `BadName`, `NameThere` and `UuidThere`: the first of these that holds. After an error
+    /// nothing is changed.
     pub fn add(
         &mut self,
         name: &[u8],
@@ -117,10 +121,12 @@ impl<O: Origin> EditCore<O> {
         })
     }
 
-    /// Begins the entry of a head, unfinished, and its part, which starts as a root alone or as the parent's subvolume.
+    /// Begins the entry of a head, unfinished, and its part, which starts as a root alone or as the
+    /// parent's subvolume.
     ///
     /// # Errors
-    /// `BadName`, `NameThere`, `UuidThere` and `NoParent`: the first of these that holds. After an error nothing is changed.
+    /// `BadName`, `NameThere`, `UuidThere` and `NoParent`: the first of these that holds. After an
+    /// error nothing is changed.
     pub fn begin(&mut self, head: &Command<'_>) -> Result<Part<O>, Stop>
         requires head { IsTrue (is_some (head_of (meaning_of head.now))) }
         ensures begun { IfSome (head_of (meaning_of head.now))
@@ -132,7 +138,8 @@ impl<O: Origin> EditCore<O> {
         self.begin_head(&head)
     }
 
-    // The same for the head itself. The catalogue refuses a head whose parent is not found, as it does all others.
+    // The same for the head itself. The catalogue refuses a head whose parent is not found, as it
+    // does all others.
     fn begin_head(&mut self, head: &Head<'_>) -> Result<Part<O>, Stop>
         ensures { Begins result (head_meant head.now) self.old self.new }
     {
@@ -145,7 +152,8 @@ impl<O: Origin> EditCore<O> {
         Ok(Part { key: head.key, sub })
     }
 
-    // The subvolume that a part starts from, none where its parent is not found. Fails for want of memory alone.
+    // The subvolume that a part starts from, none where its parent is not found. Fails for want of
+    // memory alone.
     fn start(&self, parent: Option<Key>) -> Result<Option<Subvol<O>>, AllocError>
         ensures { IfOk result
             (λ start. start_from self.now (option_map key_of parent) ≡ found start NoParent) }
@@ -159,8 +167,8 @@ impl<O: Origin> EditCore<O> {
         Ok(Some(sub.copy()?))
     }
 
-    /// One command on the part, neither a head nor END; a WRITE puts a run from the origin. After `NoMemory` nothing is said of the
-    /// part.
+    /// One command on the part, neither a head nor END; a WRITE puts a run from the origin. After
+    /// `NoMemory` nothing is said of the part.
     ///
     /// # Errors
     /// The refusals of the command, after which the part is unchanged.
@@ -211,7 +219,8 @@ impl<O: Origin> EditCore<O> {
         }
     }
 
-    // Puts a range of a file of the part itself, or of a complete subvolume, at the place `at` of a file of the part.
+    // Puts a range of a file of the part itself, or of a complete subvolume, at the place `at` of a
+    // file of the part.
     fn clone_range(
         &self,
         part: &mut Part<O>,
@@ -241,14 +250,16 @@ impl<O: Origin> EditCore<O> {
         part.sub.clone_from(path, at, other, &source.range)
     }
 
-    /// The entry of the part's UUID takes its subvolume, and is complete; where there is none, nothing changes. Takes no memory.
+    /// The entry of the part's UUID takes its subvolume, and is complete; where there is none,
+    /// nothing changes. Takes no memory.
     pub fn complete(&mut self, part: Part<O>)
         ensures { self.new ≡ with_contents part.key.uuid part.subvolume self.old }
     {
         self.catalog.complete(part.key.uuid, part.sub);
     }
 
-    /// The part of the unfinished entry of a UUID, as it began: a root alone or the parent's subvolume.
+    /// The part of the unfinished entry of a UUID, as it began: a root alone or the parent's
+    /// subvolume.
     ///
     /// # Errors
     /// `NoParent` where the entry has a parent that no complete entry has as its key now.
@@ -280,12 +291,13 @@ impl<O: Origin> EditCore<O> {
         Some(entry)
     }
 
-    /// One command on the core and the part, if there is one; a WRITE puts a run from the origin. A head completes the part before
-    /// it and begins a new one; after a refused head the part before is complete and there is no part. After `NoMemory` nothing is
-    /// said of either.
+    /// One command on the core and the part, if there is one; a WRITE puts a run from the origin. A
+    /// head completes the part before it and begins a new one; after a refused head the part before
+    /// is complete and there is no part. After `NoMemory` nothing is said of either.
     ///
     /// # Errors
-    /// `NoSubvolume` for an edit without a part, else the refusals of the command. After that of an edit nothing is changed.
+    /// `NoSubvolume` for an edit without a part, else the refusals of the command. After that of an
+    /// edit nothing is changed.
     pub fn step(
         &mut self,
         part: &mut Option<Part<O>>,

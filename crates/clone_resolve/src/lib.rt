@@ -1,5 +1,5 @@
-//! The core that holds the parts: the subvolumes of a chain of streams over any origin of their contents, and one command's
-//! step on them.
+//! The core that holds the parts: the subvolumes of a chain of streams over any origin of their
+//! contents, and one command's step on them.
 #![tactic(auto)]
 
 mod done;

@@ -20,8 +20,8 @@ const CHARACTER_DEVICE: u64 = 0o020_000;
 
 const BLOCK_DEVICE: u64 = 0o060_000;
 
-/// A command that changes names or attributes; one that changes neither changes nothing. After `NoMemory` nothing is said of the
-/// tree.
+/// A command that changes names or attributes; one that changes neither changes nothing. After
+/// `NoMemory` nothing is said of the tree.
 ///
 /// # Errors
 /// The refusals of the command, after which the tree is unchanged.

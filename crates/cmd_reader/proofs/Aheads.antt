@@ -1,4 +1,5 @@
--- What a reader says of its file, and that the bytes it was given are the file's: for callers that read on in a loop.
+-- What a reader says of its file, and that the bytes it was given are the file's: for callers that
+-- read on in a loop.
 use Rattle.std.specs.Prelude.{◌≡◌, ℕ, List, Option, None, Some, Ok}
 use Rattle.std.proofs.Common.{refl, sym, subst}
 use Rattle.send_model.specs.Reading as reading

@@ -136,7 +136,8 @@ data_place_within at version number body attributes c read e =
     let P : Command → Type 0 = λ x. length (bytes_of x) ≤ length (bytes_at attributes DATA) in
     data_within version at attributes (length body) (length (bytes_of c)) (place_of version DATA attributes) refl (withins (length body) version [] body attributes read) (subst P made.2 (data_with made.0 (bytes_at attributes)))
 
--- The kind of a command that was read is the one of its number, so it is taken where that number is.
+-- The kind of a command that was read is the one of its number, so it is taken where that number
+-- is.
 pub kind_is : (version number : ℕ) (attributes : List Attribute) (c : Command) → command_of version number attributes ≡ Ok c → (row (kind_of c)).number ≡ number
 kind_is version number attributes c e =
     let made = made_with version number attributes c e in

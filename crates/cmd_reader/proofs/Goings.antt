@@ -1,5 +1,5 @@
--- What one step of a reader answers, from the header or frame that was gone past; a call over the headers that it passed; and what
--- is made of the frame behind them.
+-- What one step of a reader answers, from the header or frame that was gone past; a call over the
+-- headers that it passed; and what is made of the frame behind them.
 use Rattle.std.specs.Prelude.{◌≡◌, ◌≢◌, ℕ, ◌+◌, ◌≤◌, Bool, true, false, ◌==◌, List, [], ◌∷◌, length, take, drop, Option, None, Some, Result, Ok, Err}
 use Rattle.std.proofs.Common.{refl, sym, ap, subst, ◌∙◌, arith, length-drop, drop-drop, eqb-true}
 use Rattle.send_model.proofs.Sound.{and_both}
@@ -381,7 +381,8 @@ frame_passed told old new frame r = subst (λ (f : FrameAt). HasPassedFrame told
 abbrev item_by : ℕ → ℕ → ℕ → ℕ → ℕ → model.Command → reading.Item
 item_by file number offset version data_at command = record { file = file; number = number; offset = offset; version = version; data_at = data_at; command = command }
 
--- The item of the frame at a reader's place, by the attributes and the command that its body is read as.
+-- The item of the frame at a reader's place, by the attributes and the command that its body is
+-- read as.
 abbrev item_here : Reader → ℕ → List Attribute → model.Command → reading.Item
 item_here r version attributes command = item_by r.file r.number r.offset version (data_place version r.offset attributes) command
 

@@ -1,4 +1,5 @@
--- What going past a frame and reading it say together of the next command: for callers that read on in a loop.
+-- What going past a frame and reading it say together of the next command: for callers that read on
+-- in a loop.
 use Rattle.std.specs.Prelude.{◌≡◌, ℕ, true, List, drop, Option, None, Some, Ok, Err}
 use Rattle.std.proofs.Common.{refl}
 use Rattle.send_model.specs.Attribute.{IsBytes}

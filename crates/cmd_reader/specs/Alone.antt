@@ -4,7 +4,8 @@ use Rattle.send_model.specs.Command.{Kind, row}
 use Rattle.send_model.specs.Reading.{attribute_head}
 use Rattle.tlv_frame.specs.Table.{Table, Slot, slot_at}
 
--- Where an attribute ends whose number and length begin at a place, if it stands there and ends within a length.
+-- Where an attribute ends whose number and length begin at a place, if it stands there and ends
+-- within a length.
 abbrev pub end_at : ℕ → ℕ → ℕ → ℕ → Option Slot → Option ℕ
 end_at version kind len at None = None
 end_at version kind len at (Some slot) =

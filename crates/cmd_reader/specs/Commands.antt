@@ -28,7 +28,8 @@ abbrev pub ReadsCommand : ℕ → ℕ → ℕ → List ℕ → Result Front code
 ReadsCommand at version number body (Ok front) = CommandIs at version number body (meaning_of front.command) front.data_at
 ReadsCommand at version number body (Err refusal) = body_read version number body ≡ Err (refusal_of refusal)
 
--- The attributes that are read are those of the command and no others, in rising order of their numbers.
+-- The attributes that are read are those of the command and no others, in rising order of their
+-- numbers.
 abbrev pub HasAlone : ℕ → List ℕ → meant.Command → Type 0
 HasAlone version body command = (attributes : List Attribute) → attributes_at version body ≡ Ok attributes → attributes ≡ attributes_of command
 
@@ -39,8 +40,8 @@ pub record CommandFits (version : ℕ) (body : List ℕ) (front : Front) : Type 
   pub alone : front.canonical ≡ true → HasAlone version body (meaning_of front.command)
   pub others : front.canonical ≡ false → HasAlone version body (meaning_of front.command) → ⊥
 
--- A body has the attributes of a command alone, in rising order of their numbers, and under this number they are read as that
--- command: the frame is the command's canonical spelling.
+-- A body has the attributes of a command alone, in rising order of their numbers, and under this
+-- number they are read as that command: the frame is the command's canonical spelling.
 pub record IsCanonicalOf (version number : ℕ) (body : List ℕ) (c : meant.Command) : Type 0 where
   pub read : attributes_at version body ≡ Ok (attributes_of c)
   pub command_is : command_of version number (attributes_of c) ≡ Ok c

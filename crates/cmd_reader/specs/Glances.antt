@@ -11,8 +11,8 @@ use Rattle.cmd_reader.specs.Left.{Reader}
 use Rattle.cmd_reader.specs.Next.{HasRead, Says}
 use Rattle.cmd_reader.specs.Mentions.{as_mention}
 
--- There is an item that was gone past, of this version. What it mentions is its command where that begins a part or names a key, and
--- else none.
+-- There is an item that was gone past, of this version. What it mentions is its command where that
+-- begins a part or names a key, and else none.
 pub record IsGlance (told : Option (List (List ℕ × List ℕ))) (old new : Reader) (glance : Glance) : Type 0 where
   pub item : reading.Item
   pub version : item.version ≡ glance.version

@@ -5,8 +5,8 @@ use Rattle.tlv_frame.specs.Feeding.{Fed, unfed}
 use Rattle.cmd_reader.specs.declared.source.Source.{Source}
 use Rattle.cmd_reader.specs.Sources.{IsSource, IsAhead}
 
--- The file's number and name, the number of the next command, the place in the file, and the bytes that were given from there on,
--- with what is due.
+-- The file's number and name, the number of the next command, the place in the file, and the bytes
+-- that were given from there on, with what is due.
 pub record Reader : Type 0 where
   pub file : ℕ
   pub name : List ℕ
@@ -43,7 +43,8 @@ left r file = left_from r.file r.fed.due r.fed.ended r.number r.offset file
 abbrev pub HasAhead : Reader → List ℕ → Type 0
 HasAhead r file = IsAhead r.offset r.fed file
 
--- A reader's numbers: commands are counted from 1 and none is empty; and a header is due where a stream has ended.
+-- A reader's numbers: commands are counted from 1 and none is empty; and a header is due where a
+-- stream has ended.
 pub record IsReader (source : Source) (number : ℕ) : Type 0 where
   pub first : 1 ≤ number
   pub count : number ≤ source.at + 1

@@ -1,4 +1,5 @@
--- The command of a frame where it begins a part or names another subvolume, and nothing of it where it does neither.
+-- The command of a frame where it begins a part or names another subvolume, and nothing of it where
+-- it does neither.
 use Rattle.std.specs.Prelude.{◌≡◌, ℕ, Bool, true, false, ◌||◌, List, [], ◌∷◌, Option, None, Some, Result, Ok, Err, option_map, is_some, if◌then◌else◌}
 use Rattle.send_model.specs.Command as meant
 use Rattle.send_model.specs.Command.{Kind, command_with}

@@ -75,8 +75,8 @@ IsNext old new item file = GoesOn old new (item_of old.file item) file
 abbrev pub IsFaulty : Reader → Verdict → List ℕ → Type 0
 IsFaulty r verdict file = left r file ≡ record { items = []; end = reading.Faulty (verdict_meant verdict) }
 
--- What was asked for; or the end, or a verdict; or that the file is too long. An end, and a verdict that the file is cut short,
--- are given only of a file that ends before the limit.
+-- What was asked for; or the end, or a verdict; or that the file is too long. An end, and a verdict
+-- that the file is cut short, are given only of a file that ends before the limit.
 abbrev pub Says : {T : Type 0} → (T → Type 0) → Option (List (List ℕ × List ℕ)) → Reader → ℕ → ℕ → Result (Option T) ReadStop → Type 0
 Says given told old before now (Ok (Some x)) = given x
 Says given told old before now (Ok None) = IfTold told old.name (HasEnded old)
@@ -123,8 +123,8 @@ EndsAfterEnd old (Err why) = ⊤
 
 -- ---- a command that was read and not made
 
--- What an item of the definitions is to a reader that has gone past it, whether or not the inputs tell; where they tell, it is the
--- next one.
+-- What an item of the definitions is to a reader that has gone past it, whether or not the inputs
+-- tell; where they tell, it is the next one.
 pub record HasRead (told : Option (List (List ℕ × List ℕ))) (old new : Reader) (item : reading.Item) : Type 0 where
   pub file : item.file ≡ old.file
   pub number : item.number ≡ old.number

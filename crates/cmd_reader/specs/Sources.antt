@@ -15,13 +15,15 @@ use Rattle.cmd_reader.specs.declared.fault.Fault.TheVariants as fault
 use Rattle.cmd_reader.specs.Places.{IfTold}
 use Rattle.cmd_reader.specs.Fronts.{IsLongAt}
 
--- The feed has the bytes from the place of the next header or frame on up to a place that is not behind the limit.
+-- The feed has the bytes from the place of the next header or frame on up to a place that is not
+-- behind the limit.
 pub record IsSource (source : Source) : Type 0 where
   pub up_to : source.at + length source.feed.left ≡ source.fed
   pub within : source.fed ≤ limit
   pub room : length source.piece.items ≡ 65_536
 
--- What a feed has and has not handed out is the file's bytes from a place on, and it has refused none.
+-- What a feed has and has not handed out is the file's bytes from a place on, and it has refused
+-- none.
 pub record IsAhead (at : ℕ) (feed : Fed) (file : List ℕ) : Type 0 where
   pub good : feed.refused ≡ None
   pub bytes : drop at file ≡ feed.left ++ drop (at + length feed.left) file
@@ -93,7 +95,8 @@ NotThere at due refusal file = handed due (drop at file) ≡ Err refusal
 abbrev pub BadThere : ℕ → Due → meant.Refusal → List ℕ → Type 0
 BadThere at due refusal file = NotThere at due refusal file × (is_truncated refusal ≡ false)
 
--- A file by its name, where the inputs tell it, and a place in it with a feed there, before and after.
+-- A file by its name, where the inputs tell it, and a place in it with a feed there, before and
+-- after.
 pub record Pass : Type 0 where
   pub told : Option (List (List ℕ × List ℕ))
   pub name : List ℕ

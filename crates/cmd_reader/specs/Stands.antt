@@ -11,8 +11,9 @@ use Rattle.cmd_reader.specs.Places.{IfTold}
 use Rattle.cmd_reader.specs.Left.{Reader}
 use Rattle.cmd_reader.specs.Next.{HasBegun}
 
--- One frame was gone past, behind any headers. It begins at this place and ends where the reader stands; its bytes are the last
--- ones, and those of the file. What is due, and whether a stream has ended, is what its number says.
+-- One frame was gone past, behind any headers. It begins at this place and ends where the reader
+-- stands; its bytes are the last ones, and those of the file. What is due, and whether a stream has
+-- ended, is what its number says.
 pub record HasPassedFrame (told : Option (List (List ℕ × List ℕ))) (old new : Reader) (at : ℕ) : Type 0 where
   pub version : ℕ
   pub frame : Frame
@@ -25,9 +26,9 @@ pub record HasPassedFrame (told : Option (List (List ℕ × List ℕ))) (old new
   pub at_end : new.fed.ended ≡ is_end frame.number
   pub bytes : IfTold told old.name (λ file. new.fed.last ≡ take (length new.fed.last) (drop at file))
 
--- After something that was given, this; after the end or a fault of the inputs, no frame was gone past. A refusal stands either
--- where the reader stands, before a header or frame that is not there, or where a frame begins that was gone past and whose body
--- was refused.
+-- After something that was given, this; after the end or a fault of the inputs, no frame was gone
+-- past. A refusal stands either where the reader stands, before a header or frame that is not
+-- there, or where a frame begins that was gone past and whose body was refused.
 abbrev pub Stands : {T : Type 0} → (T → Type 0) → Option (List (List ℕ × List ℕ)) → Reader → Reader → Result (Option T) ReadStop → Type 0
 Stands given told old new (Ok (Some x)) = given x
 Stands given told old new (Ok None) = HasBegun old new

@@ -1,4 +1,5 @@
--- What holds of the counts of the inputs unless an answer says that they failed: no call tries again where they did, and goes on.
+-- What holds of the counts of the inputs unless an answer says that they failed: no call tries
+-- again where they did, and goes on.
 use Rattle.std.specs.Prelude.{Option, None, Some, Result, Ok, Err, ⊤}
 use Rattle.cmd_reader.specs.declared.fault.Fault.{Fault}
 use Rattle.cmd_reader.specs.declared.fault.Fault.TheVariants as fault

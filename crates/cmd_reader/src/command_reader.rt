@@ -53,14 +53,16 @@ impl CmdReader {
         })
     }
 
-    /// Goes past the next frame, whose command `item` and `glance` read, or answers `None` where the file ends after END. Where the
-    /// inputs tell, they are those that gave the reader its bytes, and it has not stopped before. Whatever it answers, it has gone
-    /// past headers, and past one frame only where it gives one.
+    /// Goes past the next frame, whose command `item` and `glance` read, or answers `None` where
+    /// the file ends after END. Where the inputs tell, they are those that gave the reader its
+    /// bytes, and it has not stopped before. Whatever it answers, it has gone past headers, and
+    /// past one frame only where it gives one.
     ///
     /// # Errors
-    /// `Refused`, with the place, exactly where the bytes break a rule of reading before a frame's body; `InputFault` only where the
-    /// inputs count another fault; `InputTooLong` exactly where the file has 2^62 bytes or more and what is left of the first 2^62
-    /// ends at once, whole or cut short.
+    /// `Refused`, with the place, exactly where the bytes break a rule of reading before a frame's
+    /// body; `InputFault` only where the inputs count another fault; `InputTooLong` exactly where
+    /// the file has 2^62 bytes or more and what is left of the first 2^62 ends at once, whole or
+    /// cut short.
     pub fn advance<I: Inputs>(&mut self, inputs: &mut I) -> Result<Option<FrameAt>, ReadStop>
         requires ahead { IfTold (I.told inputs.old) self.old.name (HasAhead self.old) }
         ensures same { I.told inputs.new ≡ I.told inputs.old }
@@ -85,7 +87,8 @@ impl CmdReader {
         }
     }
 
-    /// The command of the frame that was gone past last. Takes no memory: the bytes of the command stand in the reader.
+    /// The command of the frame that was gone past last. Takes no memory: the bytes of the command
+    /// stand in the reader.
     ///
     /// # Errors
     /// The first rule of reading that the frame's body breaks, at the place of the frame.
@@ -97,7 +100,8 @@ impl CmdReader {
         item_in(frame, body_in(self.last_frame()))
     }
 
-    /// What is seen of that command: no command is made but one that begins a part or names a key. Takes no memory.
+    /// What is seen of that command: no command is made but one that begins a part or names a key.
+    /// Takes no memory.
     ///
     /// # Errors
     /// Those of `item`.
@@ -108,8 +112,8 @@ impl CmdReader {
         glance_in(frame, body_in(self.last_frame()))
     }
 
-    /// The bytes of the frame that was gone past last, as they stand in the file: from the item's place on up to where the reader
-    /// stands. Takes no memory.
+    /// The bytes of the frame that was gone past last, as they stand in the file: from the item's
+    /// place on up to where the reader stands. Takes no memory.
     pub fn last_frame(&self) -> &[u8]
         ensures bytes { result.now ≡ self.now.fed.last }
     {

@@ -142,8 +142,8 @@ fn command_in<'a>(at: u64, version: u32, cmd: u16, body: &'a [u8]) -> Result<Fro
     }
 }
 
-/// The command whose canonical spelling a frame with this number and body is; `None` exactly where there is none. The command
-/// is not spelled again. Takes no memory.
+/// The command whose canonical spelling a frame with this number and body is; `None` exactly where
+/// there is none. The command is not spelled again. Takes no memory.
 pub fn canonical_command<'a>(version: u32, cmd: u16, body: &'a [u8]) -> Option<Command<'a>>
     requires short { length body.now ≤ greatest_body }
     requires version { is_version version ≡ true }

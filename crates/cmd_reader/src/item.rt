@@ -1,4 +1,5 @@
-// What a reader gives: commands with their places, what is seen of them, or the reason why there is none.
+// What a reader gives: commands with their places, what is seen of them, or the reason why there is
+// none.
 use send_commands::Command;
 use sx_base::Verdict;
 
@@ -23,7 +24,8 @@ pub struct Item<'a> {
 /// What is seen of a command that is not made, unless it begins a part or names another subvolume.
 #[derive(Debug, Clone, Copy)]
 pub struct Glance<'a> {
-    /// The command itself where it begins a part or names a key beside its own, None where it does neither.
+    /// The command itself where it begins a part or names a key beside its own, None where it does
+    /// neither.
     pub mention: Option<Command<'a>>,
     /// The version of its stream.
     pub version: u32,

@@ -1,11 +1,12 @@
-// How compose asks for its files, up to their ends: its contract says in which order, and not how far.
+// How compose asks for its files, up to their ends: its contract says in which order, and not how
+// far.
 ghost use Rattle.std.specs.Prelude.{◌≡◌, None, map, string_bytes};
 
 use crate::same::same;
 use crate::streams::{CLONE_FROM_A, END, FIRST, HEADER, MKFILE_Y, SNAPSHOT_B, joined};
 use crate::values::two_names;
 use composer::compose;
-use part_names::PartNames;
+use part_names::Overrides;
 use std::alloc::{AllocError, Global};
 use std::test::Fail;
 use sx_base::{Failed, Inputs, Lost, MemSink, Outcome, PlainInputs};
@@ -104,7 +105,8 @@ impl Inputs for ListedInputs {
     }
 }
 
-// Whether the calls that ask for no byte again are for these files, one file after the other, each from its first byte to its last.
+// Whether the calls that ask for no byte again are for these files, one file after the other, each
+// from its first byte to its last.
 fn read_in_order(calls: &[Call], files: &[(&str, u64)]) -> bool {
     let mut read = 0;
     let mut place = 0;
@@ -149,7 +151,7 @@ fn two_files(alloc: Global, ended: bool) -> Result<ListedInputs, AllocError> {
 // How composing the two files ends.
 fn composed(alloc: Global, inputs: &mut ListedInputs) -> Result<Outcome, AllocError> {
     let names = two_names(alloc)?;
-    let own = PartNames::none(alloc);
+    let own = Overrides::none(alloc);
     let mut out = MemSink::new(alloc);
     Ok(compose(alloc, inputs, &names, &own, &mut out))
 }
@@ -180,7 +182,8 @@ fn each_file_is_asked_for_once_in_a_pass(rt: HostRuntime) -> Result<(), Fail> {
     let mut inputs = two_files(rt.alloc(), false)?;
     same(&rt, composed(rt.alloc(), &mut inputs)?, Outcome::Done);
     same(&rt, are_passes(rt.alloc(), inputs.calls.as_slice())?, true);
-    // The data of the vanishing part are asked for again, in a call of its own, and so no byte of them was kept.
+    // The data of the vanishing part are asked for again, in a call of its own, and so no byte of
+    // them was kept.
     same(&rt, is_for_data(inputs.calls.as_slice()), true);
     Ok(())
 }

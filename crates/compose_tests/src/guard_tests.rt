@@ -147,7 +147,8 @@ const NAMED: &[(Word, Option<usize>, [u64; 3])] = &[
     (Word::Device, Some(0), [3, 0, 1]),
 ];
 
-// Whether the first guard that refuses the command has this place, and the guards then have these counts.
+// Whether the first guard that refuses the command has this place, and the guards then have these
+// counts.
 fn answers(
     guards: &mut [Box<dyn Guard>],
     command: &Command<'_>,

@@ -1,5 +1,5 @@
-//! Tests of the calls of `clone_resolve`, `guard_rules`, `provenance`, `clone_pieces`, `file_survey` and `composer`.
-//! Nothing stands here but tests.
+//! Tests of the calls of `clone_resolve`, `guard_rules`, `provenance`, `clone_pieces`,
+//! `file_survey` and `composer`. Nothing stands here but tests.
 #![tactic(auto)]
 
 #[cfg(test)]

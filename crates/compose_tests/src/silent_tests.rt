@@ -20,7 +20,7 @@ use clone_pieces::{Known, OutsideBytes};
 use clone_resolve::{EditCore, Part};
 use composer::{Task, compose_over};
 use file_survey::{Survey, survey};
-use part_names::PartNames;
+use part_names::Overrides;
 use provenance::{Ends, Trace};
 use send_commands::Command;
 use std::alloc::{AllocError, Global};
@@ -72,7 +72,8 @@ impl Known for Silent {
     }
 }
 
-// Its bytes: those that are held are 0, and reads give others. One of them fails, counted from 1, or none at 0.
+// Its bytes: those that are held are 0, and reads give others. One of them fails, counted from 1,
+// or none at 0.
 #[derive(Drop)]
 struct SilentBytes {
     key: Key,
@@ -243,12 +244,12 @@ fn over(
         (counts 0 (inputs.new.faults + bytes.new.faults) out.new.faults) result }
 {
     let known = Silent { key: bytes.key };
-    let own = PartNames::none(found.alloc);
+    let own = Overrides::none(found.alloc);
     let task = Task {
         alloc: found.alloc,
         files: found.files,
         survey: found.survey,
-        names: &own,
+        overrides: &own,
         known: &known,
     };
     compose_over(&task, core, bytes, inputs, out)
@@ -274,7 +275,7 @@ fn surveyed(
 ) -> Result<Outcome, Fail> {
     let names = two_names(alloc)?;
     let core = standing(alloc, bytes.key)?;
-    let Ok(seen) = survey(alloc, inputs, &names, &PartNames::none(alloc)) else {
+    let Ok(seen) = survey(alloc, inputs, &names, &Overrides::none(alloc)) else {
         panic!(rt; "the files are not surveyed")
     };
     assert!(rt; !seen.has_part(bytes.key.uuid));
@@ -286,8 +287,8 @@ fn surveyed(
     Ok(over(&found, core, bytes, inputs, out))
 }
 
-// Composes the two files over the base, of whose reads one fails; gives the outcome, what is written, and how often the base was
-// read and failed.
+// Composes the two files over the base, of whose reads one fails; gives the outcome, what is
+// written, and how often the base was read and failed.
 fn composed(
     rt: &impl Abort,
     alloc: Global,

@@ -33,9 +33,10 @@ enum Word {
     End,
 }
 
-// A command, and the number of its refusal, 0 where it is taken. First a byte: a UUID is sixteen times this byte, and it is the
-// transaction number too; or the bits of a FALLOCATE's mode. Then the path, the other path or the data, and a number: the
-// parent's transaction number, the length, the size, the mode, or the place.
+// A command, and the number of its refusal, 0 where it is taken. First a byte: a UUID is sixteen
+// times this byte, and it is the transaction number too; or the bits of a FALLOCATE's mode. Then
+// the path, the other path or the data, and a number: the parent's transaction number, the length,
+// the size, the mode, or the place.
 type Row = (Word, u8, &'static [u8], &'static [u8], u64, u64);
 
 fn command<'a>(word: Word, id: u8, path: &'a [u8], other: &'a [u8], number: u64) -> Command<'a>

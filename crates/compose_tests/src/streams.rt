@@ -1,4 +1,5 @@
-// Headers and frames of which files are made, from another program. UUIDs are sixteen times the same byte.
+// Headers and frames of which files are made, from another program. UUIDs are sixteen times the
+// same byte.
 use std::alloc::{AllocError, Global};
 
 pub(crate) const HEADER: &[u8] = b"btrfs-stream\x00\x01\x00\x00\x00";

@@ -1,11 +1,12 @@
-// Two files that are surveyed, a fault between heads, and the front of a stream. The bytes here are from another program too.
+// Two files that are surveyed, a fault between heads, and the front of a stream. The bytes here are
+// from another program too.
 use crate::same::same;
 use crate::streams::{
     CLONE_FROM_B, END, HEADER, HEADER_V2, MKFILE, MKFILE_Y, SNAPSHOT_B, SUBVOL_A, WRITE_HI, joined,
 };
 use crate::values::{key, two_names, uuid};
 use file_survey::{Survey, survey};
-use part_names::PartNames;
+use part_names::Overrides;
 use std::alloc::{AllocError, Global};
 use std::process::Abort;
 use std::test::Fail;
@@ -41,7 +42,7 @@ fn surveyed(alloc: Global, first: &[&[u8]], second: &[&[u8]]) -> Result<Survey, 
         alloc,
         &mut inputs,
         files.as_slice(),
-        &PartNames::none(alloc),
+        &Overrides::none(alloc),
     ) {
         Ok(seen) => Ok(seen),
         Err(_) => Err(Fail::from("the files are not surveyed")),

@@ -26,8 +26,8 @@ impl Ends for AllEnd {
     }
 }
 
-// A run, or a piece of what contents are cut into: of an inode, from a place on, and so long. Number 0 is no inode: the bytes of a
-// run were written, and those of a piece are.
+// A run, or a piece of what contents are cut into: of an inode, from a place on, and so long.
+// Number 0 is no inode: the bytes of a run were written, and those of a piece are.
 type Run = (u32, u32, u32);
 
 fn plan(piece: Run) -> Plan {

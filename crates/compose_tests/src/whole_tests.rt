@@ -6,7 +6,7 @@ use crate::streams::{
     joined,
 };
 use composer::compose;
-use part_names::PartNames;
+use part_names::Overrides;
 use std::alloc::{AllocError, Global};
 use std::process::Abort;
 use std::test::Fail;
@@ -31,7 +31,7 @@ fn expect(
         names.push(String::from_str(alloc, name)?)?;
     }
     assert!(rt; names.len() == files.len() && !names.is_empty());
-    let own = PartNames::none(alloc);
+    let own = Overrides::none(alloc);
     let mut out = MemSink::new(alloc);
     let outcome = compose(alloc, &mut inputs, &names, &own, &mut out);
     same(rt, outcome, Outcome::Done);

@@ -12,7 +12,7 @@ use Rattle.send_model.specs.Order.{heads, last_item}
 use Rattle.send_model.specs.Composed.{last_head}
 use Rattle.send_model.specs.Due.{RefusedAt}
 use Rattle.send_model.specs.Lengths.{limit, only_ends}
-use Rattle.send_model.specs.Renamed.{named_as}
+use Rattle.send_model.specs.Overridden.{Override, overridden_as}
 use Rattle.sx_base.specs.Asks.{IsData}
 use Rattle.sx_base.specs.Causes.{Rose}
 use Rattle.sx_base.specs.Outside.{AppendsPart}
@@ -54,15 +54,16 @@ use Rattle.composer.proofs.OverBaseFolds.{advance_unsent_ok, advance_unsent_err,
 
 -- ---- what the loop keeps
 
--- These items of the file were read, and taken with the name that is given for it, and of the bytes that are then to be written some were.
-pub record Stands (files : List (List ℕ)) (plan : Plan) (file : ℕ) (given : Option (List ℕ)) (old : Kept) (out_old : Option (List ℕ)) (reader : Reader) (now : Kept) (out_now : Option (List ℕ)) (before place : Place) (bytes : List ℕ) : Type 0 where
+-- These items of the file were read, and taken with the name that is given for it, and of the bytes
+-- that are then to be written some were.
+pub record Stands (files : List (List ℕ)) (plan : Plan) (file : ℕ) (given : Override) (old : Kept) (out_old : Option (List ℕ)) (reader : Reader) (now : Kept) (out_now : Option (List ℕ)) (before place : Place) (bytes : List ℕ) : Type 0 where
   items : List Item
   sent : List ℕ
   read : reads file bytes ≡ then_reading items (left reader bytes)
-  all : advance_all plan (composing_of files plan.base old) (map (named_as given) items) ≡ Ok (unsent sent (composing_of files plan.base now))
+  all : advance_all plan (composing_of files plan.base old) (map (overridden_as given) items) ≡ Ok (unsent sent (composing_of files plan.base now))
   appends : Appends out_old out_now sent
   last : IsLastPlace before place (last_item items)
-  latest : now.latest ≡ first_of (last_head (heads (map (named_as given) items))) old.latest
+  latest : now.latest ≡ first_of (last_head (heads (map (overridden_as given) items))) old.latest
   reached : reader.offset ≤ length bytes
 
 -- What is left ends as the file does.
@@ -80,7 +81,7 @@ none_taken plan now = refl
 pub alike_at_start : (told : Option (List (List ℕ × List ℕ))) (file : ℕ) (name spelled : List ℕ) (reader : Reader) → reader ≡ at_start file spelled → IfTold told name (EndsAlike file reader)
 alike_at_start told file name spelled reader e = told_always told name (EndsAlike file reader) (λ bytes. ap (λ (r : Reading). r.end) (sym (left_fresh file spelled bytes)) ∙ ap (λ (r : Reader). (left r bytes).end) (sym e))
 
-pub stands_at_start : (told : Option (List (List ℕ × List ℕ))) (names : List (List ℕ)) (plan : Plan) (number file : ℕ) (given : Option (List ℕ)) (name : List ℕ) (reader : Reader) (now : Kept) (out : Option (List ℕ)) (place : Place) → reader ≡ at_start file name
+pub stands_at_start : (told : Option (List (List ℕ × List ℕ))) (names : List (List ℕ)) (plan : Plan) (number file : ℕ) (given : Override) (name : List ℕ) (reader : Reader) (now : Kept) (out : Option (List ℕ)) (place : Place) → reader ≡ at_start file name
     → IfAllTold told names (λ files. Stands files plan file given now out reader now out place place (get_or files number []))
 stands_at_start told names plan number file given name reader now out place e =
     all_always told names (λ files. Stands files plan file given now out reader now out place place (get_or files number [])) (λ files.
@@ -159,9 +160,10 @@ in_files_after told inputs names number old new now next item same next_is there
 pub cells_in_files : (told : Option (List (List ℕ × List ℕ))) (names : List (List ℕ)) (number : ℕ) (reader : Reader) (now : Kept) → IfAllTold told names (InFiles number reader now) → IfAllTold told names (λ files. AllCells (IsInInput files) now.state)
 cells_in_files told names number reader now there = all_map told names (InFiles number reader now) (λ files. AllCells (IsInInput files) now.state) (λ files t. t.0) there
 
--- The data of the next item stand in its file, whatever name it has, and the cells so far in theirs.
-pub data_there : (told : Option (List (List ℕ × List ℕ))) (names : List (List ℕ)) (number file : ℕ) (given : Option (List ℕ)) (old new : Reader) (now : Kept) (item taken_item : read.Item)
-    → file ≡ number + 1 → old.file ≡ file → item_of file taken_item ≡ named_as given (item_of file item) → IfAllTold told names (λ files. IsNext old new item (get_or files number [])) → IfAllTold told names (InFiles number old now)
+-- The data of the next item stand in its file, whatever name it has, and the cells so far in
+-- theirs.
+pub data_there : (told : Option (List (List ℕ × List ℕ))) (names : List (List ℕ)) (number file : ℕ) (given : Override) (old new : Reader) (now : Kept) (item taken_item : read.Item)
+    → file ≡ number + 1 → old.file ≡ file → item_of file taken_item ≡ overridden_as given (item_of file item) → IfAllTold told names (λ files. IsNext old new item (get_or files number [])) → IfAllTold told names (InFiles number old now)
     → IfAllTold told names (λ files. AllCells (IsInInput files) now.state × DataStand files (item_of file taken_item))
 data_there told names number file given old new now item taken_item file_is old_file named next there =
     all_two told names (λ files. IsNext old new item (get_or files number [])) (InFiles number old now) (λ files. AllCells (IsInInput files) now.state × DataStand files (item_of file taken_item))
@@ -197,8 +199,8 @@ left_next : (file : ℕ) (old new : Reader) (item : read.Item) (bytes : List ℕ
 left_next file old new item bytes old_file n = n.left_is ∙ ap (λ (k : ℕ). with_item (item_of k item) (left new bytes)) old_file
 
 -- One more item was read, and taken with the name that is given.
-pub stands_after : (told inputs : Option (List (List ℕ × List ℕ))) (names : List (List ℕ)) (plan : Plan) (number file : ℕ) (given : Option (List ℕ)) (c0 : Kept) (out0 : Option (List ℕ)) (old new : Reader) (now next : Kept) (out_now out_next : Option (List ℕ)) (before place after : Place)
-    (item taken_item : read.Item) → old.file ≡ file → after ≡ record { file = file; command = item.number; offset = item.offset } → item_of file taken_item ≡ named_as given (item_of file item) → inputs ≡ told
+pub stands_after : (told inputs : Option (List (List ℕ × List ℕ))) (names : List (List ℕ)) (plan : Plan) (number file : ℕ) (given : Override) (c0 : Kept) (out0 : Option (List ℕ)) (old new : Reader) (now next : Kept) (out_now out_next : Option (List ℕ)) (before place after : Place)
+    (item taken_item : read.Item) → old.file ≡ file → after ≡ record { file = file; command = item.number; offset = item.offset } → item_of file taken_item ≡ overridden_as given (item_of file item) → inputs ≡ told
     → IfAllTold told names (λ files. IsNext old new item (get_or files number []))
     → IfAllTold inputs names (λ files. ItemEnd files plan now next (item_of file taken_item) out_now out_next (Ok tt))
     → IfAllTold told names (λ files. Stands files plan file given c0 out0 old now out_now before place (get_or files number []))
@@ -212,21 +214,21 @@ stands_after told inputs names plan number file given c0 out0 old new now next o
     (all.told_moved told inputs names (λ files. ItemEnd files plan now next (item_of file taken_item) out_now out_next (Ok tt)) same taken))
     stands
   where
-    step : (files : List (List ℕ)) (bytes : List ℕ) → IsNext old new item bytes → ItemTaken plan (composing_of files plan.base now) (composing_of files plan.base next) (named_as given (item_of file item)) out_now out_next × ItemKept now next (named_as given (item_of file item))
+    step : (files : List (List ℕ)) (bytes : List ℕ) → IsNext old new item bytes → ItemTaken plan (composing_of files plan.base now) (composing_of files plan.base next) (overridden_as given (item_of file item)) out_now out_next × ItemKept now next (overridden_as given (item_of file item))
         → Stands files plan file given c0 out0 old now out_now before place bytes → Stands files plan file given c0 out0 new next out_next before after bytes
     step files bytes n (t, k) s =
         let this : Item = item_of file item in
-        let before_it : List Item = map (named_as given) s.items in
-        let more : map (named_as given) (s.items ++ this ∷ []) ≡ before_it ++ named_as given this ∷ [] = map-append (named_as given) s.items (this ∷ []) in
+        let before_it : List Item = map (overridden_as given) s.items in
+        let more : map (overridden_as given) (s.items ++ this ∷ []) ≡ before_it ++ overridden_as given this ∷ [] = map-append (overridden_as given) s.items (this ∷ []) in
         record {
           items = s.items ++ this ∷ [];
           sent = s.sent ++ t.sent;
           read = s.read ∙ ap (then_reading s.items) (left_next file old new item bytes old_file n) ∙ then_item s.items this (left new bytes);
           all = ap (advance_all plan (composing_of files plan.base c0)) more
-              ∙ one_more plan before_it (named_as given this) (composing_of files plan.base c0) (composing_of files plan.base now) t.next (composing_of files plan.base next) s.sent t.sent s.all t.taken t.rest;
+              ∙ one_more plan before_it (overridden_as given this) (composing_of files plan.base c0) (composing_of files plan.base now) t.next (composing_of files plan.base next) s.sent t.sent s.all t.taken t.rest;
           appends = Appends-trans out0 out_now out_next s.sent t.sent s.appends t.appends;
           last = last_place s.items this before after (is_place file item after at_item);
-          latest = k ∙ ap (first_of (head_of (named_as given this).command)) s.latest ∙ latest_more before_it (named_as given this) c0.latest
+          latest = k ∙ ap (first_of (head_of (overridden_as given this).command)) s.latest ∙ latest_more before_it (overridden_as given this) c0.latest
               ∙ ap (λ (xs : List Item). first_of (last_head (heads xs)) c0.latest) (sym more);
           reached = n.reached s.reached;
         }
@@ -234,7 +236,7 @@ stands_after told inputs names plan number file given c0 out0 old new now next o
 -- ---- the ends
 
 -- The file ends.
-pub file_ends : (told inputs : Option (List (List ℕ × List ℕ))) (names : List (List ℕ)) (plan : Plan) (number file : ℕ) (given : Option (List ℕ)) (c0 : Kept) (out0 : Option (List ℕ)) (old new : Reader) (now : Kept) (out_now : Option (List ℕ)) (before place : Place)
+pub file_ends : (told inputs : Option (List (List ℕ × List ℕ))) (names : List (List ℕ)) (plan : Plan) (number file : ℕ) (given : Override) (c0 : Kept) (out0 : Option (List ℕ)) (old new : Reader) (now : Kept) (out_now : Option (List ℕ)) (before place : Place)
     (f0 f1 : ℕ) (o : Option read.Item) → o ≡ None → inputs ≡ told → number < length names → old.name ≡ get_or names number [] → NextSays inputs old new f0 f1 (Ok o)
     → IfAllTold told names (λ files. Stands files plan file given c0 out0 old now out_now before place (get_or files number []))
     → IfAllTold told names (λ files. FileTaken files plan file given c0 now out0 out_now before place (get_or files number []))
@@ -302,7 +304,7 @@ no_front : (out : Option (List ℕ)) (pending : List ℕ) → AppendsFront out o
 no_front out pending = record { count = 0; within = omega (arith); appends = Appends-nil out }
 
 -- There is no memory for a reader.
-pub file_unopened : (told : Option (List (List ℕ × List ℕ))) (names : List (List ℕ)) (plan : Plan) (number file : ℕ) (given : Option (List ℕ)) (now : Kept) (out : Option (List ℕ)) → IfAllTold told names (λ files. FileStops files plan file given now out out over.NoMemory (get_or files number []))
+pub file_unopened : (told : Option (List (List ℕ × List ℕ))) (names : List (List ℕ)) (plan : Plan) (number file : ℕ) (given : Override) (now : Kept) (out : Option (List ℕ)) → IfAllTold told names (λ files. FileStops files plan file given now out out over.NoMemory (get_or files number []))
 file_unopened told names plan number file given now out = all_always told names (λ files. FileStops files plan file given now out out over.NoMemory (get_or files number [])) (λ files. record {
   items = [];
   rest = reads file (get_or files number []);
@@ -315,28 +317,29 @@ file_unopened told names plan number file given now out = all_always told names 
 })
 
 -- Why a file can not be read on, whatever was composed.
-Unread : Plan → ℕ → Option (List ℕ) → Reader → ReadStop → List ℕ → Type 0
+Unread : Plan → ℕ → Override → Reader → ReadStop → List ℕ → Type 0
 Unread plan file given old why bytes = old.offset ≤ length bytes → (now : Composing) → FileWhy plan file given now (left old bytes) (outcome_at file why) bytes
 
 -- The same by how its bytes before the limit end.
-Unread_by : Plan → ℕ → Option (List ℕ) → Reader → ReadStop → List ℕ → Type 0
+Unread_by : Plan → ℕ → Override → Reader → ReadStop → List ℕ → Type 0
 Unread_by plan file given old why bytes = old.offset ≤ length bytes → (reads file (take limit bytes)).end ≡ (left old (take limit bytes)).end → (now : Composing) → FileWhy plan file given now (left old bytes) (outcome_at file why) bytes
 
-unread_by : (told : Option (List (List ℕ × List ℕ))) (plan : Plan) (file : ℕ) (given : Option (List ℕ)) (old new : Reader) (f0 f1 : ℕ) (why : ReadStop) → NextSays told old new f0 f1 (Err why) → IfTold told old.name (Unread_by plan file given old why)
+unread_by : (told : Option (List (List ℕ × List ℕ))) (plan : Plan) (file : ℕ) (given : Override) (old new : Reader) (f0 f1 : ℕ) (why : ReadStop) → NextSays told old new f0 f1 (Err why) → IfTold told old.name (Unread_by plan file given old why)
 unfolding Unread_by
 unread_by told plan file given old new f0 f1 (stop.Refused verdict) says = told_map told old.name (IsRefused (λ _. IsFaulty old verdict) (refusal_of verdict.refusal)) (Unread_by plan file given old (stop.Refused verdict)) (λ bytes (bad, early) reached ends now. inl bad) says
 unread_by told plan file given old new f0 f1 stop.InputFault says = told_always told old.name (Unread_by plan file given old stop.InputFault) (λ bytes reached ends now. tt)
 unread_by told plan file given old new f0 f1 stop.InputTooLong says =
     told_map told old.name (IsLongAt old.offset (OnlyEnds old)) (Unread_by plan file given old stop.InputTooLong) (λ bytes long reached ends now. (let l = long reached in (refl, long_is file bytes l.0 (ap only_ends ends ∙ l.1.1)))) says
 
-unread : (told : Option (List (List ℕ × List ℕ))) (plan : Plan) (file : ℕ) (given : Option (List ℕ)) (old new : Reader) (f0 f1 : ℕ) (why : ReadStop) → NextSays told old new f0 f1 (Err why) → IfTold told old.name (EndsAlike file old) → IfTold told old.name (Unread plan file given old why)
+unread : (told : Option (List (List ℕ × List ℕ))) (plan : Plan) (file : ℕ) (given : Override) (old new : Reader) (f0 f1 : ℕ) (why : ReadStop) → NextSays told old new f0 f1 (Err why) → IfTold told old.name (EndsAlike file old) → IfTold told old.name (Unread plan file given old why)
 unfolding Unread Unread_by
 unread told plan file given old new f0 f1 why says alike =
     told_both told old.name (Unread_by plan file given old why) (Here (EndsAlike file old)) (Unread plan file given old why) (λ bytes u h reached now. u reached h.1 now)
     (unread_by told plan file given old new f0 f1 why says) (told_here told old.name (EndsAlike file old) alike)
 
--- Composing ends before the next command, for some reason: what was kept back is sent, or the output failed.
-ends_here : {still : List ℕ} (files : List (List ℕ)) (plan : Plan) (file : ℕ) (given : Option (List ℕ)) (c0 : Kept) (out0 : Option (List ℕ)) (old : Reader) (now : Kept) (out_now out_next : Option (List ℕ)) (before place : Place) (g0 g1 : ℕ) (outcome result : Outcome) (bytes : List ℕ)
+-- Composing ends before the next command, for some reason: what was kept back is sent, or the
+-- output failed.
+ends_here : {still : List ℕ} (files : List (List ℕ)) (plan : Plan) (file : ℕ) (given : Override) (c0 : Kept) (out0 : Option (List ℕ)) (old : Reader) (now : Kept) (out_now out_next : Option (List ℕ)) (before place : Place) (g0 g1 : ℕ) (outcome result : Outcome) (bytes : List ℕ)
     → StopEnd now.pending still out_now out_next g0 g1 outcome result → (s : Stands files plan file given c0 out0 old now out_now before place bytes)
     → FileWhy plan file given (unsent s.sent (composing_of files plan.base now)) (left old bytes) outcome bytes → FileStops files plan file given c0 out0 out_next result bytes
 ends_here {still} files plan file given c0 out0 old now out_now out_next before place g0 g1 outcome result bytes stopped s why =
@@ -354,7 +357,7 @@ ends_here {still} files plan file given c0 out0 old now out_now out_next before 
     }
 
 -- The file can not be read on.
-pub file_stops : {still : List ℕ} (told inputs : Option (List (List ℕ × List ℕ))) (names : List (List ℕ)) (plan : Plan) (number file : ℕ) (given : Option (List ℕ)) (c0 : Kept) (out0 : Option (List ℕ)) (old new : Reader) (now : Kept) (out_now out_next : Option (List ℕ)) (before place : Place)
+pub file_stops : {still : List ℕ} (told inputs : Option (List (List ℕ × List ℕ))) (names : List (List ℕ)) (plan : Plan) (number file : ℕ) (given : Override) (c0 : Kept) (out0 : Option (List ℕ)) (old new : Reader) (now : Kept) (out_now out_next : Option (List ℕ)) (before place : Place)
     (f0 f1 g0 g1 : ℕ) (why : ReadStop) (outcome result : Outcome) → inputs ≡ told → number < length names → old.name ≡ get_or names number [] → NextSays inputs old new f0 f1 (Err why)
     → outcome ≡ outcome_at file why → StopEnd now.pending still out_now out_next g0 g1 outcome result → IfTold inputs old.name (EndsAlike file old)
     → IfAllTold told names (λ files. Stands files plan file given c0 out0 old now out_now before place (get_or files number []))
@@ -371,7 +374,7 @@ file_stops told inputs names plan number file given c0 out0 old new now out_now 
         (subst (λ (x : Outcome). FileWhy plan file given (unsent s.sent (composing_of files plan.base now)) (left old bytes) x bytes) (sym outcome_is) (u s.reached (unsent s.sent (composing_of files plan.base now))))
 
 -- The next item has a version above that of the stream that is written.
-pub file_above : {still : List ℕ} (told : Option (List (List ℕ × List ℕ))) (names : List (List ℕ)) (plan : Plan) (number file : ℕ) (given : Option (List ℕ)) (c0 : Kept) (out0 : Option (List ℕ)) (old new : Reader) (now : Kept) (out_now out_next : Option (List ℕ)) (before place : Place)
+pub file_above : {still : List ℕ} (told : Option (List (List ℕ × List ℕ))) (names : List (List ℕ)) (plan : Plan) (number file : ℕ) (given : Override) (c0 : Kept) (out0 : Option (List ℕ)) (old new : Reader) (now : Kept) (out_now out_next : Option (List ℕ)) (before place : Place)
     (g0 g1 : ℕ) (item : read.Item) (verdict : Verdict) (result : Outcome) → plan.version < item.version → old.file ≡ file → StopEnd now.pending still out_now out_next g0 g1 (over.Refused verdict) result
     → IfAllTold told names (λ files. IsNext old new item (get_or files number []))
     → IfAllTold told names (λ files. Stands files plan file given c0 out0 old now out_now before place (get_or files number []))
@@ -387,7 +390,7 @@ file_above told names plan number file given c0 out0 old new now out_now out_nex
 
 -- ---- an item ends composing
 
-module _ (files : List (List ℕ)) (plan : Plan) (file : ℕ) (given : Option (List ℕ)) (c0 : Kept) (out0 : Option (List ℕ)) (old new : Reader) (now : Kept) (out_now out_next : Option (List ℕ)) (before place : Place) (item : Item) (bytes : List ℕ) (s : Stands files plan file given c0 out0 old now out_now before place bytes) (n : left old bytes ≡ with_item item (left new bytes)) where
+module _ (files : List (List ℕ)) (plan : Plan) (file : ℕ) (given : Override) (c0 : Kept) (out0 : Option (List ℕ)) (old new : Reader) (now : Kept) (out_now out_next : Option (List ℕ)) (before place : Place) (item : Item) (bytes : List ℕ) (s : Stands files plan file given c0 out0 old now out_now before place bytes) (n : left old bytes ≡ with_item item (left new bytes)) where
   so_far : Composing
   so_far = composing_of files plan.base now
 
@@ -406,23 +409,23 @@ module _ (files : List (List ℕ)) (plan : Plan) (file : ℕ) (given : Option (L
   }
 
   -- Composing stops after the item, which was taken.
-  stops_after : (next : Composing) (outcome : Outcome) → advance plan so_far (named_as given item) ≡ Ok next → AppendsFront out_now out_next next.pending → AllWhereEnded outcome out_now out_next next.pending → FileWhy plan file given (unsent s.sent next) (left new bytes) outcome bytes → FileStops files plan file given c0 out0 out_next outcome bytes
+  stops_after : (next : Composing) (outcome : Outcome) → advance plan so_far (overridden_as given item) ≡ Ok next → AppendsFront out_now out_next next.pending → AllWhereEnded outcome out_now out_next next.pending → FileWhy plan file given (unsent s.sent next) (left new bytes) outcome bytes → FileStops files plan file given c0 out0 out_next outcome bytes
   unfolding so_far
   stops_after next outcome taken front whole why = record {
     items = s.items ++ item ∷ [];
     rest = left new bytes;
     next = unsent s.sent next;
     read = s.read ∙ ap (then_reading s.items) n ∙ then_item s.items item (left new bytes);
-    all = ap (advance_all plan (composing_of files plan.base c0)) (map-append (named_as given) s.items (item ∷ []))
-        ∙ all_more plan (composing_of files plan.base c0) (unsent s.sent so_far) (unsent s.sent next) (map (named_as given) s.items) (named_as given item ∷ []) s.all
-        (all_one plan (unsent s.sent so_far) (unsent s.sent next) (named_as given item) (advance_unsent_ok plan s.sent so_far next (named_as given item) taken));
+    all = ap (advance_all plan (composing_of files plan.base c0)) (map-append (overridden_as given) s.items (item ∷ []))
+        ∙ all_more plan (composing_of files plan.base c0) (unsent s.sent so_far) (unsent s.sent next) (map (overridden_as given) s.items) (overridden_as given item ∷ []) s.all
+        (all_one plan (unsent s.sent so_far) (unsent s.sent next) (overridden_as given item) (advance_unsent_ok plan s.sent so_far next (overridden_as given item) taken));
     front = front_after out0 out_now out_next s.sent next.pending s.appends front;
     whole = all_after outcome out0 out_now out_next s.sent next.pending s.appends whole;
     why = why;
   }
 
-  halts : (halt : Halt) → advance plan so_far (named_as given item) ≡ Err halt → NextHalts plan given (unsent s.sent so_far) (left old bytes) halt item
-  halts halt e = record { more = left new bytes; front = n; halted = advance_unsent_err plan s.sent so_far (named_as given item) halt e }
+  halts : (halt : Halt) → advance plan so_far (overridden_as given item) ≡ Err halt → NextHalts plan given (unsent s.sent so_far) (left old bytes) halt item
+  halts halt e = record { more = left new bytes; front = n; halted = advance_unsent_err plan s.sent so_far (overridden_as given item) halt e }
 
   same_front : (next : Composing) → next ≡ so_far → AppendsFront out_now out_next next.pending → AppendsFront out_now out_next now.pending
   unfolding so_far
@@ -433,13 +436,13 @@ module _ (files : List (List ℕ)) (plan : Plan) (file : ℕ) (given : Option (L
   same_whole next is whole = subst (λ (x : Composing). Appends out_now out_next x.pending) is whole
 
   -- Where no reason has to be given.
-  stops_either : (next : Composing) (outcome : Outcome) → ((bs : List ℕ) → AllWhereEnded outcome out_now out_next bs) → ((now : Composing) (rest : Reading) → FileWhy plan file given now rest outcome bytes) → (next ≡ so_far) ⊎ (advance plan so_far (named_as given item) ≡ Ok next) → AppendsFront out_now out_next next.pending
+  stops_either : (next : Composing) (outcome : Outcome) → ((bs : List ℕ) → AllWhereEnded outcome out_now out_next bs) → ((now : Composing) (rest : Reading) → FileWhy plan file given now rest outcome bytes) → (next ≡ so_far) ⊎ (advance plan so_far (overridden_as given item) ≡ Ok next) → AppendsFront out_now out_next next.pending
       → FileStops files plan file given c0 out0 out_next outcome bytes
   stops_either next outcome whole why either front =
       ⊎_elim (λ (is : next ≡ so_far). stops_at outcome (same_front next is front) (whole now.pending) (why (unsent s.sent so_far) (left old bytes)))
-      (λ (taken : advance plan so_far (named_as given item) ≡ Ok next). stops_after next outcome taken front (whole next.pending) (why (unsent s.sent next) (left new bytes))) either
+      (λ (taken : advance plan so_far (overridden_as given item) ≡ Ok next). stops_after next outcome taken front (whole next.pending) (why (unsent s.sent next) (left new bytes))) either
 
-  item_ends : (outcome : Outcome) (next : Composing) → ItemWhy plan so_far next (named_as given item) outcome → AppendsFront out_now out_next next.pending → AllWhereEnded outcome out_now out_next next.pending → FileStops files plan file given c0 out0 out_next outcome bytes
+  item_ends : (outcome : Outcome) (next : Composing) → ItemWhy plan so_far next (overridden_as given item) outcome → AppendsFront out_now out_next next.pending → AllWhereEnded outcome out_now out_next next.pending → FileStops files plan file given c0 out0 out_next outcome bytes
   item_ends over.Done next why front whole = elim why [ ]
   item_ends (over.Refused verdict) next (is, r) front whole =
       stops_at (over.Refused verdict) (same_front next is front) (same_whole next is whole) (inr (inl (item, Refuses r.refusal, halts (Refuses r.refusal) r.refused, ap RefusedAt (sym r.verdict_is))))
@@ -480,8 +483,8 @@ left_whole (over.InputTooLong number) out_old out_new left bytes l = elim l [ ]
 left_whole (over.InputChanged number at) out_old out_new left bytes l = elim l [ ]
 left_whole over.Done out_old out_new left bytes l = elim l [ ]
 
-pub item_stops : (told inputs : Option (List (List ℕ × List ℕ))) (names : List (List ℕ)) (plan : Plan) (number file : ℕ) (given : Option (List ℕ)) (c0 : Kept) (out0 : Option (List ℕ)) (old new : Reader) (now next : Kept) (out_now out_next : Option (List ℕ)) (before place : Place)
-    (item taken_item : read.Item) (outcome : Outcome) → old.file ≡ file → item_of file taken_item ≡ named_as given (item_of file item) → inputs ≡ told
+pub item_stops : (told inputs : Option (List (List ℕ × List ℕ))) (names : List (List ℕ)) (plan : Plan) (number file : ℕ) (given : Override) (c0 : Kept) (out0 : Option (List ℕ)) (old new : Reader) (now next : Kept) (out_now out_next : Option (List ℕ)) (before place : Place)
+    (item taken_item : read.Item) (outcome : Outcome) → old.file ≡ file → item_of file taken_item ≡ overridden_as given (item_of file item) → inputs ≡ told
     → IfAllTold told names (λ files. IsNext old new item (get_or files number []))
     → IfAllTold inputs names (λ files. ItemEnd files plan now next (item_of file taken_item) out_now out_next (Err outcome))
     → IfAllTold told names (λ files. Stands files plan file given c0 out0 old now out_now before place (get_or files number []))
@@ -490,7 +493,7 @@ unfolding so_far
 item_stops told inputs names plan number file given c0 out0 old new now next out_now out_next before place item taken_item outcome old_file named same next_is stops stands =
     all_two told names (λ files. IsNext old new item (get_or files number []) × ItemStops plan (composing_of files plan.base now) (item_of file taken_item) outcome out_now out_next next.pending)
     (λ files. Stands files plan file given c0 out0 old now out_now before place (get_or files number [])) (λ files. FileStops files plan file given c0 out0 out_next outcome (get_or files number []))
-    (λ files p s. (let t : ItemStops plan (composing_of files plan.base now) (named_as given (item_of file item)) outcome out_now out_next next.pending = subst (λ (x : Item). ItemStops plan (composing_of files plan.base now) x outcome out_now out_next next.pending) named p.1 in
+    (λ files p s. (let t : ItemStops plan (composing_of files plan.base now) (overridden_as given (item_of file item)) outcome out_now out_next next.pending = subst (λ (x : Item). ItemStops plan (composing_of files plan.base now) x outcome out_now out_next next.pending) named p.1 in
     item_ends files plan file given c0 out0 old new now out_now out_next before place (item_of file item) (get_or files number []) s
     (left_next file old new item (get_or files number []) old_file p.0) outcome t.next t.why (left_front outcome out_now out_next next.pending t.next.pending t.goes) (left_whole outcome out_now out_next next.pending t.next.pending t.goes)))
     (all_two told names (λ files. IsNext old new item (get_or files number [])) (λ files. ItemStops plan (composing_of files plan.base now) (item_of file taken_item) outcome out_now out_next next.pending)

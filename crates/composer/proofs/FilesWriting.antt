@@ -1,4 +1,5 @@
--- Composing all files over a base, one after the other: what is known before, what the loop keeps, and what holds at each of its ends.
+-- Composing all files over a base, one after the other: what is known before, what the loop keeps,
+-- and what holds at each of its ends.
 use Rattle.std.specs.Prelude.{◌≡◌, ◌≢◌, ℕ, ◌+◌, ◌<◌, ◌≤◌, Bool, true, false, ◌&&◌, List, [], ◌∷◌, ◌++◌, map, length, take, drop, get_or, Option, None, Some, Result, Ok, Err, String, is_some}
 use Rattle.std.specs.String.{string_bytes}
 use Rattle.std.specs.Io.KnownBytes.{Appends}
@@ -19,11 +20,11 @@ use Rattle.send_model.specs.Due.{RefusedAt, reading_due}
 use Rattle.send_model.specs.Receive.{first_of}
 use Rattle.send_model.specs.Headline.{IsComposedOf, IsStoppedOf, whole_output_of}
 use Rattle.send_model.specs.Laws.{CanWrite, IsWhole}
-use Rattle.send_model.specs.Renamed.{Names, name_for, named_as, renamed_item, renamed_items, renamed}
+use Rattle.send_model.specs.Overridden.{Overrides, override_for, overridden_as, overridden_item, overridden_items, overridden}
 use Rattle.send_model.proofs.ElementLaws.{all_rest}
 use Rattle.send_model.proofs.Endings.{EndsWithEnd, EndsWell, input_ends}
 use Rattle.send_model.proofs.HeadlineLaw.{fronts_are_writable, readings_hold}
-use Rattle.send_model.proofs.Renaming.{keeps_all_else}
+use Rattle.send_model.proofs.Overriding.{keeps_all_else, still_ends}
 use Rattle.send_model.proofs.Stores.{same_key_same, bytes_eq_same}
 use Rattle.sx_base.specs.Outside.{file_at, AppendsPart}
 use Rattle.sx_base.specs.Calls.{contents, IfAllTold, Wrote}
@@ -37,7 +38,7 @@ use Rattle.file_survey.specs.Findings.{Surveyed, AreReadable, AllRead, SurveySto
 use Rattle.file_survey.proofs.AheadSteps.{ahead_start, ahead_input, ahead_whole, last_item_none, input_some}
 use Rattle.file_survey.proofs.FilesAhead.{ahead_file}
 use Rattle.file_survey.proofs.TooLong.{LongAhead, long_start, long_next, long_here}
-use Rattle.file_survey.proofs.NamedItems.{both_named, next_named, then_nothing, version_named}
+use Rattle.file_survey.proofs.NamedItems.{both_with, next_with, then_nothing, version_with}
 use Rattle.file_survey.proofs.Versions.{item_version, version_is}
 use Rattle.clone_pieces.specs.declared.stops.SendStop.{SendStop}
 use Rattle.clone_pieces.specs.declared.stops.SendStop.TheVariants as stopped
@@ -48,7 +49,6 @@ use Rattle.composer.specs.Files.{plan_with, IsLastPlace, NextHalts, NextAbove, C
 use Rattle.clone_pieces.proofs.Told.{all_always, all_map, all_two}
 use Rattle.composer.proofs.Unpacked.{FileTaken, FileWhy, FileStops}
 use Rattle.composer.proofs.HandedOn.{answer_with}
-use Rattle.composer.proofs.NamedItem.{still_ends}
 use Rattle.composer.proofs.LastHeads.{latest_none, latest_append, latest_alone}
 use Rattle.composer.proofs.FileWriting.{front_after}
 use Rattle.composer.proofs.OverBaseProgress.{Progress, progress_start, progress_all}
@@ -60,16 +60,16 @@ use Rattle.composer.proofs.OverBaseAnswers.{ends_done, ends_refused, ends_too_mu
 -- ---- what is known before the first item
 
 -- What a survey of the files over a base without their parts says.
-pub record IsKnown (base : Store ℕ) (given : Names) (survey : Surveyed) (files : List (List ℕ)) : Type 0 where
+pub record IsKnown (base : Store ℕ) (given : Overrides) (survey : Surveyed) (files : List (List ℕ)) : Type 0 where
   plan_is : plan_with base survey ≡ plan_for base given files
-  base_is : base_of base (renamed given (input files)).items ≡ base
-  sayable : FindsSayable base (keys_outside (renamed given (input files)).items)
+  base_is : base_of base (overridden given (input files)).items ≡ base
+  sayable : FindsSayable base (keys_outside (overridden given (input files)).items)
   ready : AreReady base given files
   read : AllRead given survey files
 
-pub known : (base : Store ℕ) (given : Names) (survey : Surveyed) (files : List (List ℕ)) → store_without survey.parts base ≡ base → AllSayable base → AllRead given survey files → IsKnown base given survey files
+pub known : (base : Store ℕ) (given : Overrides) (survey : Surveyed) (files : List (List ℕ)) → store_without survey.parts base ≡ base → AllSayable base → AllRead given survey files → IsKnown base given survey files
 known base given survey files apart sayable read =
-    let items : List Item = (renamed given (input files)).items in
+    let items : List Item = (overridden given (input files)).items in
     let base_is : base_of base items ≡ base = ap (λ (ps : List (List ℕ)). store_without ps base) (sym read.parts) ∙ apart in
     let finds : FindsSayable base (keys_outside items) = λ key s among f. sayable key s f in
     record {
@@ -85,24 +85,24 @@ known base given survey files apart sayable read =
 
 -- ---- what the loop keeps
 
--- All items of the files before this place were taken, with the names that are given, and of the bytes that are then to be written some
--- were. None of these files is too long.
-pub record FilesStand (plan : Plan) (given : Names) (old : Kept) (out_old : Option (List ℕ)) (number : ℕ) (now : Kept) (out_now : Option (List ℕ)) (before place : Place) (files : List (List ℕ)) : Type 0 where
+-- All items of the files before this place were taken, with the names that are given, and of the
+-- bytes that are then to be written some were. None of these files is too long.
+pub record FilesStand (plan : Plan) (given : Overrides) (old : Kept) (out_old : Option (List ℕ)) (number : ℕ) (now : Kept) (out_now : Option (List ℕ)) (before place : Place) (files : List (List ℕ)) : Type 0 where
   items : List Item
   sent : List ℕ
   ahead : IsAhead files items ended number (drop number files)
   long : LongAhead files number (drop number files)
-  all : advance_all plan (composing_of files plan.base old) (renamed_items given items) ≡ Ok (unsent sent (composing_of files plan.base now))
+  all : advance_all plan (composing_of files plan.base old) (overridden_items given items) ≡ Ok (unsent sent (composing_of files plan.base now))
   appends : Appends out_old out_now sent
   last : IsLastPlace before place (last_item items)
-  latest : now.latest ≡ first_of (last_head (heads (renamed_items given items))) old.latest
+  latest : now.latest ≡ first_of (last_head (heads (overridden_items given items))) old.latest
 
 none_taken : (plan : Plan) (now : Composing) → advance_all plan now [] ≡ Ok now
 unfolding advance_all
 none_taken plan now = refl
 
 -- Before the first file.
-pub files_start : (told : Option (List (List ℕ × List ℕ))) (names : List (List ℕ)) (plan : Plan) (given : Names) (now : Kept) (out : Option (List ℕ)) (place : Place) → IfAllTold told names (FilesStand plan given now out 0 now out place place)
+pub files_start : (told : Option (List (List ℕ × List ℕ))) (names : List (List ℕ)) (plan : Plan) (given : Overrides) (now : Kept) (out : Option (List ℕ)) (place : Place) → IfAllTold told names (FilesStand plan given now out 0 now out place place)
 files_start told names plan given now out place = all_always told names (FilesStand plan given now out 0 now out place place) (λ files. record {
   items = [];
   sent = [];
@@ -137,7 +137,7 @@ last_place_more before mid place items (item ∷ more) a b = by_last (last_item 
 file_next : (files : List (List ℕ)) (number : ℕ) → number < length files → drop number files ≡ get_or files number [] ∷ drop (number + 1) files
 file_next files number less = drop_more files number [] less
 
-module _ (plan : Plan) (given : Names) (old : Kept) (out0 : Option (List ℕ)) (number : ℕ) (now : Kept) (out_now out_next : Option (List ℕ)) (before place : Place) (files : List (List ℕ)) (less : number < length files) where
+module _ (plan : Plan) (given : Overrides) (old : Kept) (out0 : Option (List ℕ)) (number : ℕ) (now : Kept) (out_now out_next : Option (List ℕ)) (before place : Place) (files : List (List ℕ)) (less : number < length files) where
   abbrev this : List ℕ
   this = get_or files number []
 
@@ -147,16 +147,16 @@ module _ (plan : Plan) (given : Names) (old : Kept) (out0 : Option (List ℕ)) (
       ahead_file files s.items number this (drop (number + 1) files) more rest (subst (λ (fs : List (List ℕ)). IsAhead files s.items ended number fs) (file_next files number less) s.ahead) read
 
   -- One more file.
-  one_file : (next : Kept) (after : Place) → FilesStand plan given old out0 number now out_now before place files → FileTaken files plan (number + 1) (name_for given (number + 1)) now next out_now out_next place after (get_or files number [])
+  one_file : (next : Kept) (after : Place) → FilesStand plan given old out0 number now out_now before place files → FileTaken files plan (number + 1) (override_for given (number + 1)) now next out_now out_next place after (get_or files number [])
       → FilesStand plan given old out0 (number + 1) next out_next before after files
   one_file next after s t =
       let whole : reads (number + 1) this ≡ then_reading t.items ended = then_nothing (reads (number + 1) this) t.items Whole t.read in
       let c0 : Composing = composing_of files plan.base old in
       let c1 : Composing = composing_of files plan.base now in
       let c2 : Composing = composing_of files plan.base next in
-      let first : List Item = renamed_items given s.items in
-      let then' : List Item = map (named_as (name_for given (number + 1))) t.items in
-      let all_named : renamed_items given (s.items ++ t.items) ≡ first ++ then' = both_named given (number + 1) this s.items t.items ended whole in
+      let first : List Item = overridden_items given s.items in
+      let then' : List Item = map (overridden_as (override_for given (number + 1))) t.items in
+      let all_named : overridden_items given (s.items ++ t.items) ≡ first ++ then' = both_with given (number + 1) this s.items t.items ended whole in
       record {
         items = s.items ++ t.items;
         sent = s.sent ++ t.sent;
@@ -173,13 +173,13 @@ count_files : {Z : Type 0} (table : List (List ℕ × List ℕ)) (names : List (
 count_files table names = length-map (map string_bytes names) (file_at table) ∙ length-map names string_bytes
 
 -- One more file.
-pub files_after : {Z : Type 0} (told inputs : Option (List (List ℕ × List ℕ))) (names : List (String Z)) (plan : Plan) (given : Names) (old : Kept) (out0 : Option (List ℕ)) (number : ℕ) (now next : Kept) (out_now out_next : Option (List ℕ)) (before place after : Place)
-    → inputs ≡ told → number < length names → IfAllTold inputs (map string_bytes names) (λ files. FileTaken files plan (number + 1) (name_for given (number + 1)) now next out_now out_next place after (get_or files number []))
+pub files_after : {Z : Type 0} (told inputs : Option (List (List ℕ × List ℕ))) (names : List (String Z)) (plan : Plan) (given : Overrides) (old : Kept) (out0 : Option (List ℕ)) (number : ℕ) (now next : Kept) (out_now out_next : Option (List ℕ)) (before place after : Place)
+    → inputs ≡ told → number < length names → IfAllTold inputs (map string_bytes names) (λ files. FileTaken files plan (number + 1) (override_for given (number + 1)) now next out_now out_next place after (get_or files number []))
     → IfAllTold told (map string_bytes names) (FilesStand plan given old out0 number now out_now before place) → IfAllTold told (map string_bytes names) (FilesStand plan given old out0 (number + 1) next out_next before after)
 files_after {Z} told inputs names plan given old out0 number now next out_now out_next before place after same less taken stands =
-    by_told told (subst (λ (t : Option (List (List ℕ × List ℕ))). IfAllTold t (map string_bytes names) (λ files. FileTaken files plan (number + 1) (name_for given (number + 1)) now next out_now out_next place after (get_or files number []))) same taken) stands
+    by_told told (subst (λ (t : Option (List (List ℕ × List ℕ))). IfAllTold t (map string_bytes names) (λ files. FileTaken files plan (number + 1) (override_for given (number + 1)) now next out_now out_next place after (get_or files number []))) same taken) stands
   where
-    by_told : (t : Option (List (List ℕ × List ℕ))) → IfAllTold t (map string_bytes names) (λ files. FileTaken files plan (number + 1) (name_for given (number + 1)) now next out_now out_next place after (get_or files number []))
+    by_told : (t : Option (List (List ℕ × List ℕ))) → IfAllTold t (map string_bytes names) (λ files. FileTaken files plan (number + 1) (override_for given (number + 1)) now next out_now out_next place after (get_or files number []))
         → IfAllTold t (map string_bytes names) (FilesStand plan given old out0 number now out_now before place) → IfAllTold t (map string_bytes names) (FilesStand plan given old out0 (number + 1) next out_next before after)
     by_told None p s = tt
     by_told (Some table) p s =
@@ -189,21 +189,21 @@ files_after {Z} told inputs names plan given old out0 number now next out_now ou
 -- ---- where it stops
 
 -- No item of all has a version above that of the stream.
-never_above : (base : Store ℕ) (given : Names) (survey : Surveyed) (files : List (List ℕ)) (items : List Item) (rest : Reading) (number : ℕ) (after : List (List ℕ)) → AllRead given survey files → IsAhead files items rest number after → NextAbove (plan_with base survey) rest → ⊥
+never_above : (base : Store ℕ) (given : Overrides) (survey : Surveyed) (files : List (List ℕ)) (items : List Item) (rest : Reading) (number : ℕ) (after : List (List ℕ)) → AllRead given survey files → IsAhead files items rest number after → NextAbove (plan_with base survey) rest → ⊥
 never_above base given survey files items rest number after known ahead above =
     let all = ahead_input files items above.item rest above.more number after ahead above.front in
-    let this : Item = renamed_item given above.item in
-    let front : List Item = renamed_items given items in
-    let more : List Item = renamed_items given all.0 in
-    let is : (renamed given (input files)).items ≡ front ++ this ∷ more = ap (λ (r : Reading). renamed_items given r.items) all.2 ∙ map-append (renamed_item given) items (above.item ∷ all.0) in
+    let this : Item = overridden_item given above.item in
+    let front : List Item = overridden_items given items in
+    let more : List Item = overridden_items given all.0 in
+    let is : (overridden given (input files)).items ≡ front ++ this ∷ more = ap (λ (r : Reading). overridden_items given r.items) all.2 ∙ map-append (overridden_item given) items (above.item ∷ all.0) in
     let here = all_rest (λ (item : Item). CanWrite item.version item.command × (is_version item.version ≡ true)) front (this ∷ more) (subst AreReadable is known.writable) in
     let most = item_version front more this (version_is this.version this.command here.0.0) in
     let version : survey.version ≡ version_of (front ++ this ∷ more) = known.version ∙ ap version_of is in
-    let same : this.version ≡ above.item.version = version_named (name_for given above.item.file) above.item in
+    let same : this.version ≡ above.item.version = version_with (override_for given above.item.file) above.item in
     let over_all = above.above in
     omega (arith, most, version, same, over_all)
 
-module _ (base : Store ℕ) (given : Names) (survey : Surveyed) (files : List (List ℕ)) (k : IsKnown base given survey files) (old : Kept) (start : composing_of files base old ≡ at_start (plan_with base survey)) where
+module _ (base : Store ℕ) (given : Overrides) (survey : Surveyed) (files : List (List ℕ)) (k : IsKnown base given survey files) (old : Kept) (start : composing_of files base old ≡ at_start (plan_with base survey)) where
   abbrev plan : Plan
   plan = plan_with base survey
 
@@ -214,46 +214,46 @@ module _ (base : Store ℕ) (given : Names) (survey : Surveyed) (files : List (L
       (progress_all plan [] items (at_start plan) total [] (progress_start plan) (subst (λ (c : Composing). advance_all plan c items ≡ Ok total) start all))
 
   module _ (out0 : Option (List ℕ)) (number : ℕ) (now : Kept) (out_now out_next : Option (List ℕ)) (before place : Place) (less : number < length files) (s : FilesStand (plan_with base survey) given old out0 number now out_now before place files) (outcome : Outcome)
-      (t : FileStops files (plan_with base survey) (number + 1) (name_for given (number + 1)) now out_now out_next outcome (get_or files number [])) where
-    progress_now : Progress (plan_for base given files) (renamed_items given (s.items ++ t.items)) (unsent s.sent t.next) []
+      (t : FileStops files (plan_with base survey) (number + 1) (override_for given (number + 1)) now out_now out_next outcome (get_or files number [])) where
+    progress_now : Progress (plan_for base given files) (overridden_items given (s.items ++ t.items)) (unsent s.sent t.next) []
     progress_now =
-        let then' : List Item = map (named_as (name_for given (number + 1))) t.items in
-        subst (λ (xs : List Item). Progress (plan_for base given files) xs (unsent s.sent t.next) []) (sym (both_named given (number + 1) (get_or files number []) s.items t.items t.rest t.read))
-        (so_far (renamed_items given s.items ++ then') (unsent s.sent t.next)
-        (all_more plan (composing_of files base old) (unsent s.sent (composing_of files base now)) (unsent s.sent t.next) (renamed_items given s.items) then' s.all (all_unsent_ok plan s.sent (composing_of files base now) t.next then' t.all)))
+        let then' : List Item = map (overridden_as (override_for given (number + 1))) t.items in
+        subst (λ (xs : List Item). Progress (plan_for base given files) xs (unsent s.sent t.next) []) (sym (both_with given (number + 1) (get_or files number []) s.items t.items t.rest t.read))
+        (so_far (overridden_items given s.items ++ then') (unsent s.sent t.next)
+        (all_more plan (composing_of files base old) (unsent s.sent (composing_of files base now)) (unsent s.sent t.next) (overridden_items given s.items) then' s.all (all_unsent_ok plan s.sent (composing_of files base now) t.next then' t.all)))
 
     ahead_now : IsAhead files (s.items ++ t.items) t.rest (number + 1) (drop (number + 1) files)
     ahead_now = in_file plan given old out0 number now out_now out_next before place files less s t.items t.rest t.read
 
     -- The next item has the name that is given for the file.
-    this_named : (item : Item) (more : Reading) → t.rest ≡ with_item item more → renamed_item given item ≡ named_as (name_for given (number + 1)) item
-    this_named item more front = next_named given (number + 1) (get_or files number []) t.items item more t.rest t.read front
+    this_named : (item : Item) (more : Reading) → t.rest ≡ with_item item more → overridden_item given item ≡ overridden_as (override_for given (number + 1)) item
+    this_named item more front = next_with given (number + 1) (get_or files number []) t.items item more t.rest t.read front
 
-    halted_now : (item : Item) (halt : Halt) → NextHalts (plan_with base survey) (name_for given (number + 1)) t.next t.rest halt item → reading_due base (renamed given (input files)) ≡ halt_due (named_as (name_for given (number + 1)) item) halt
+    halted_now : (item : Item) (halt : Halt) → NextHalts (plan_with base survey) (override_for given (number + 1)) t.next t.rest halt item → reading_due base (overridden given (input files)) ≡ halt_due (overridden_as (override_for given (number + 1)) item) halt
     halted_now item halt h =
         let same = this_named item h.more h.front in
         halted_ahead base given files (s.items ++ t.items) item t.rest h.more (number + 1) (drop (number + 1) files) (unsent s.sent t.next) [] halt ahead_now h.front progress_now
         (ap (advance (plan_for base given files) (unsent s.sent t.next)) same
-        ∙ subst (λ (p : Plan). advance p (unsent s.sent t.next) (named_as (name_for given (number + 1)) item) ≡ Err halt) k.plan_is (advance_unsent_err plan s.sent t.next (named_as (name_for given (number + 1)) item) halt h.halted))
+        ∙ subst (λ (p : Plan). advance p (unsent s.sent t.next) (overridden_as (override_for given (number + 1)) item) ≡ Err halt) k.plan_is (advance_unsent_err plan s.sent t.next (overridden_as (override_for given (number + 1)) item) halt h.halted))
         ∙ ap (λ (x : Item). halt_due x halt) same
 
-    refused_now : (verdict : Verdict) → FileWhy (plan_with base survey) (number + 1) (name_for given (number + 1)) t.next t.rest (over.Refused verdict) (get_or files number []) → reading_due base (renamed given (input files)) ≡ RefusedAt (verdict_meant verdict)
+    refused_now : (verdict : Verdict) → FileWhy (plan_with base survey) (number + 1) (override_for given (number + 1)) t.next t.rest (over.Refused verdict) (get_or files number []) → reading_due base (overridden given (input files)) ≡ RefusedAt (verdict_meant verdict)
     refused_now verdict (inl faulty) = fault_ahead base given files (s.items ++ t.items) t.rest (verdict_meant verdict) (number + 1) (drop (number + 1) files) (unsent s.sent t.next) [] ahead_now faulty progress_now
     refused_now verdict (inr (inl (item, halt, h, due))) = halted_now item halt h ∙ due
     refused_now verdict (inr (inr above)) = absurd (never_above base given survey files (s.items ++ t.items) t.rest (number + 1) (drop (number + 1) files) k.read ahead_now above)
 
     -- Where a command is refused, or a file is at fault, all is written that is due.
-    refused_whole : (verdict : Verdict) → FileWhy (plan_with base survey) (number + 1) (name_for given (number + 1)) t.next t.rest (over.Refused verdict) (get_or files number []) → s.sent ++ t.next.pending ≡ whole_output_of base (renamed given (input files))
+    refused_whole : (verdict : Verdict) → FileWhy (plan_with base survey) (number + 1) (override_for given (number + 1)) t.next t.rest (over.Refused verdict) (get_or files number []) → s.sent ++ t.next.pending ≡ whole_output_of base (overridden given (input files))
     refused_whole verdict (inl faulty) = faulty_ahead base given files (s.items ++ t.items) t.rest (verdict_meant verdict) (number + 1) (drop (number + 1) files) (unsent s.sent t.next) [] k.ready ahead_now faulty progress_now
     refused_whole verdict (inr (inl (item, Exceeds sum, h, due))) = cc
     refused_whole verdict (inr (inl (item, Refuses refusal, h, due))) =
         refused_ahead base given files (s.items ++ t.items) item t.rest h.more (number + 1) (drop (number + 1) files) (unsent s.sent t.next) [] refusal k.ready ahead_now h.front progress_now
         (ap (advance (plan_for base given files) (unsent s.sent t.next)) (this_named item h.more h.front)
-        ∙ subst (λ (p : Plan). advance p (unsent s.sent t.next) (named_as (name_for given (number + 1)) item) ≡ Err (Refuses refusal)) k.plan_is (advance_unsent_err plan s.sent t.next (named_as (name_for given (number + 1)) item) (Refuses refusal) h.halted))
+        ∙ subst (λ (p : Plan). advance p (unsent s.sent t.next) (overridden_as (override_for given (number + 1)) item) ≡ Err (Refuses refusal)) k.plan_is (advance_unsent_err plan s.sent t.next (overridden_as (override_for given (number + 1)) item) (Refuses refusal) h.halted))
     refused_whole verdict (inr (inr above)) = absurd (never_above base given survey files (s.items ++ t.items) t.rest (number + 1) (drop (number + 1) files) k.read ahead_now above)
 
-    by_outcome : (written : List ℕ) → IsStoppedOf base (renamed given (input files)) written → (x : Outcome) → ((verdict : Verdict) → x ≡ over.Refused verdict → written ≡ whole_output_of base (renamed given (input files)))
-        → FileWhy (plan_with base survey) (number + 1) (name_for given (number + 1)) t.next t.rest x (get_or files number []) → ComposeEnds base given files x written
+    by_outcome : (written : List ℕ) → IsStoppedOf base (overridden given (input files)) written → (x : Outcome) → ((verdict : Verdict) → x ≡ over.Refused verdict → written ≡ whole_output_of base (overridden given (input files)))
+        → FileWhy (plan_with base survey) (number + 1) (override_for given (number + 1)) t.next t.rest x (get_or files number []) → ComposeEnds base given files x written
     by_outcome written short over.Done whole why = elim why [ ]
     by_outcome written short (over.Refused verdict) whole why = record { ends = ends_refused 1 2 base given files written verdict k.read.fits (refused_now verdict why) short; composed = λ e. cc; refused = whole }
     by_outcome written short (over.TooMuch sum) whole (item, h) = record { ends = ends_too_much 1 2 base given files written sum k.read.fits (halted_now item (Exceeds sum) h) short; composed = λ e. cc; refused = whole }
@@ -269,20 +269,20 @@ module _ (base : Store ℕ) (given : Names) (survey : Surveyed) (files : List (L
     by_outcome written short (over.InputChanged n at) whole why = elim why [ ]
 
     -- A front part of what is due is written, and no whole stream.
-    short_of : (count : ℕ) → count ≤ length (s.sent ++ t.next.pending) → IsStoppedOf base (renamed given (input files)) (take count (s.sent ++ t.next.pending))
+    short_of : (count : ℕ) → count ≤ length (s.sent ++ t.next.pending) → IsStoppedOf base (overridden given (input files)) (take count (s.sent ++ t.next.pending))
     short_of count within = stopped_ahead base given files (s.items ++ t.items) t.rest (number + 1) (drop (number + 1) files) (unsent s.sent t.next) [] count k.ready ahead_now progress_now within
 
     -- Where nothing has to be said of all of it.
-    front_stopped : (x : Outcome) → ((verdict : Verdict) → x ≡ over.Refused verdict → ⊥) → FileWhy (plan_with base survey) (number + 1) (name_for given (number + 1)) t.next t.rest x (get_or files number []) → Wrote out0 out_next (ComposeEnds base given files x)
+    front_stopped : (x : Outcome) → ((verdict : Verdict) → x ≡ over.Refused verdict → ⊥) → FileWhy (plan_with base survey) (number + 1) (override_for given (number + 1)) t.next t.rest x (get_or files number []) → Wrote out0 out_next (ComposeEnds base given files x)
     front_stopped x other why =
         let front = front_after out0 out_now out_next s.sent t.next.pending s.appends t.front in
         let written : List ℕ = take front.count (s.sent ++ t.next.pending) in
         (written, front.appends, by_outcome written (short_of front.count front.within) x (λ verdict e. absurd (other verdict e)) why)
 
-    by_stop : (x : Outcome) → AllWhereEnded x out_now out_next t.next.pending → FileWhy (plan_with base survey) (number + 1) (name_for given (number + 1)) t.next t.rest x (get_or files number []) → Wrote out0 out_next (ComposeEnds base given files x)
+    by_stop : (x : Outcome) → AllWhereEnded x out_now out_next t.next.pending → FileWhy (plan_with base survey) (number + 1) (override_for given (number + 1)) t.next t.rest x (get_or files number []) → Wrote out0 out_next (ComposeEnds base given files x)
     by_stop (over.Refused verdict) whole why =
         let written : List ℕ = s.sent ++ t.next.pending in
-        let short : IsStoppedOf base (renamed given (input files)) written = subst (IsStoppedOf base (renamed given (input files))) (take-length written) (short_of (length written) (omega arith)) in
+        let short : IsStoppedOf base (overridden given (input files)) written = subst (IsStoppedOf base (overridden given (input files))) (take-length written) (short_of (length written) (omega arith)) in
         (written, Appends-trans out0 out_now out_next s.sent t.next.pending s.appends whole, by_outcome written short (over.Refused verdict) (λ v e. refused_whole verdict why) why)
     by_stop over.Done whole why = elim why [ ]
     by_stop (over.TooMuch sum) whole why = front_stopped (over.TooMuch sum) (λ v e. cc) why
@@ -297,24 +297,24 @@ module _ (base : Store ℕ) (given : Names) (survey : Surveyed) (files : List (L
     file_stopped = by_stop outcome t.whole t.why
 
 -- What holds before the first file.
-pub record HasBegun (base : Store ℕ) (given : Names) (survey : Surveyed) (old : Kept) (files : List (List ℕ)) : Type 0 where
+pub record HasBegun (base : Store ℕ) (given : Overrides) (survey : Surveyed) (old : Kept) (files : List (List ℕ)) : Type 0 where
   known : IsKnown base given survey files
   start : composing_of files base old ≡ at_start (plan_with base survey)
 
-pub begun : (told : Option (List (List ℕ × List ℕ))) (names : List (List ℕ)) (base : Store ℕ) (given : Names) (survey : Surveyed) (old : Kept) → store_without survey.parts base ≡ base → AllSayable base → IfAllTold told names (AllRead given survey)
+pub begun : (told : Option (List (List ℕ × List ℕ))) (names : List (List ℕ)) (base : Store ℕ) (given : Overrides) (survey : Surveyed) (old : Kept) → store_without survey.parts base ≡ base → AllSayable base → IfAllTold told names (AllRead given survey)
     → IfAllTold told names (λ files. composing_of files base old ≡ at_start (plan_with base survey)) → IfAllTold told names (HasBegun base given survey old)
 begun told names base given survey old apart sayable read start =
     all_two told names (AllRead given survey) (λ files. composing_of files base old ≡ at_start (plan_with base survey)) (HasBegun base given survey old) (λ files r s. record { known = known base given survey files apart sayable r; start = s }) read start
 
-pub files_stopped : {Z : Type 0} (told inputs : Option (List (List ℕ × List ℕ))) (names : List (String Z)) (base : Store ℕ) (given : Names) (survey : Surveyed) (old : Kept) (out0 : Option (List ℕ)) (number : ℕ) (now : Kept) (out_now out_next : Option (List ℕ)) (before place : Place) (outcome : Outcome)
+pub files_stopped : {Z : Type 0} (told inputs : Option (List (List ℕ × List ℕ))) (names : List (String Z)) (base : Store ℕ) (given : Overrides) (survey : Surveyed) (old : Kept) (out0 : Option (List ℕ)) (number : ℕ) (now : Kept) (out_now out_next : Option (List ℕ)) (before place : Place) (outcome : Outcome)
     → inputs ≡ told → number < length names → IfAllTold told (map string_bytes names) (HasBegun base given survey old)
-    → IfAllTold inputs (map string_bytes names) (λ files. FileStops files (plan_with base survey) (number + 1) (name_for given (number + 1)) now out_now out_next outcome (get_or files number []))
+    → IfAllTold inputs (map string_bytes names) (λ files. FileStops files (plan_with base survey) (number + 1) (override_for given (number + 1)) now out_now out_next outcome (get_or files number []))
     → IfAllTold told (map string_bytes names) (FilesStand (plan_with base survey) given old out0 number now out_now before place) → IfAllTold told (map string_bytes names) (λ files. Wrote out0 out_next (ComposeEnds base given files outcome))
 files_stopped {Z} told inputs names base given survey old out0 number now out_now out_next before place outcome same less begun stops stands =
-    by_told told begun (subst (λ (t : Option (List (List ℕ × List ℕ))). IfAllTold t (map string_bytes names) (λ files. FileStops files (plan_with base survey) (number + 1) (name_for given (number + 1)) now out_now out_next outcome (get_or files number []))) same stops) stands
+    by_told told begun (subst (λ (t : Option (List (List ℕ × List ℕ))). IfAllTold t (map string_bytes names) (λ files. FileStops files (plan_with base survey) (number + 1) (override_for given (number + 1)) now out_now out_next outcome (get_or files number []))) same stops) stands
   where
     by_told : (t : Option (List (List ℕ × List ℕ))) → IfAllTold t (map string_bytes names) (HasBegun base given survey old)
-        → IfAllTold t (map string_bytes names) (λ files. FileStops files (plan_with base survey) (number + 1) (name_for given (number + 1)) now out_now out_next outcome (get_or files number []))
+        → IfAllTold t (map string_bytes names) (λ files. FileStops files (plan_with base survey) (number + 1) (override_for given (number + 1)) now out_now out_next outcome (get_or files number []))
         → IfAllTold t (map string_bytes names) (FilesStand (plan_with base survey) given old out0 number now out_now before place) → IfAllTold t (map string_bytes names) (λ files. Wrote out0 out_next (ComposeEnds base given files outcome))
     by_told None b p s = tt
     by_told (Some table) b p s =
@@ -324,7 +324,7 @@ files_stopped {Z} told inputs names base given survey old out0 number now out_no
 -- ---- the end of the last file
 
 -- The last file has ended.
-record AtEnd (base : Store ℕ) (given : Names) (survey : Surveyed) (out0 : Option (List ℕ)) (now : Kept) (out_now : Option (List ℕ)) (before place : Place) (files : List (List ℕ)) : Type 0 where
+record AtEnd (base : Store ℕ) (given : Overrides) (survey : Surveyed) (out0 : Option (List ℕ)) (now : Kept) (out_now : Option (List ℕ)) (before place : Place) (files : List (List ℕ)) : Type 0 where
   known : IsKnown base given survey files
   items : List Item
   sent : List ℕ
@@ -332,15 +332,15 @@ record AtEnd (base : Store ℕ) (given : Names) (survey : Surveyed) (out0 : Opti
   ahead : IsAhead files items ended number []
   appends : Appends out0 out_now sent
   last_place : IsLastPlace before place (last_item items)
-  progress : Progress (plan_for base given files) (renamed_items given items) (composing_of files base now) sent
-  latest : now.latest ≡ last_head (heads (renamed_items given items))
-  last : survey.last ≡ last_head (heads (renamed_items given items))
+  progress : Progress (plan_for base given files) (overridden_items given items) (composing_of files base now) sent
+  latest : now.latest ≡ last_head (heads (overridden_items given items))
+  last : survey.last ≡ last_head (heads (overridden_items given items))
 
 none_of : (o : Option Head) → is_some o ≡ false → o ≡ None
 none_of None e = refl
 none_of (Some head) e = cc
 
-at_end : (base : Store ℕ) (given : Names) (survey : Surveyed) (old : Kept) (out0 : Option (List ℕ)) (number : ℕ) (now : Kept) (out_now : Option (List ℕ)) (before place : Place) (files : List (List ℕ)) → drop number files ≡ [] → HasBegun base given survey old files
+at_end : (base : Store ℕ) (given : Overrides) (survey : Surveyed) (old : Kept) (out0 : Option (List ℕ)) (number : ℕ) (now : Kept) (out_now : Option (List ℕ)) (before place : Place) (files : List (List ℕ)) → drop number files ≡ [] → HasBegun base given survey old files
     → FilesStand (plan_with base survey) given old out0 number now out_now before place files → AtEnd base given survey out0 now out_now before place files
 at_end base given survey old out0 number now out_now before place files none b s =
     let ahead : IsAhead files s.items ended number [] = subst (λ (fs : List (List ℕ)). IsAhead files s.items ended number fs) none s.ahead in
@@ -354,9 +354,9 @@ at_end base given survey old out0 number now out_now before place files none b s
       ahead = ahead;
       appends = s.appends;
       last_place = s.last;
-      progress = progress_unsent (plan_for base given files) (renamed_items given s.items) (composing_of files base now) [] s.sent (so_far base given survey files b.known old b.start (renamed_items given s.items) (unsent s.sent (composing_of files base now)) s.all);
-      latest = s.latest ∙ ap (first_of (last_head (heads (renamed_items given s.items)))) first ∙ latest_alone (last_head (heads (renamed_items given s.items)));
-      last = b.known.read.last ∙ ap (λ (r : Reading). last_head (heads (renamed_items given r.items))) whole;
+      progress = progress_unsent (plan_for base given files) (overridden_items given s.items) (composing_of files base now) [] s.sent (so_far base given survey files b.known old b.start (overridden_items given s.items) (unsent s.sent (composing_of files base now)) s.all);
+      latest = s.latest ∙ ap (first_of (last_head (heads (overridden_items given s.items)))) first ∙ latest_alone (last_head (heads (overridden_items given s.items)));
+      last = b.known.read.last ∙ ap (λ (r : Reading). last_head (heads (overridden_items given r.items))) whole;
     }
 
 same_last : (l : Option Head) → is_at_last l l ≡ is_some l
@@ -372,15 +372,15 @@ unfolding heads_of
 end_there cs some (inl none) = absurd (some (ap heads_of none))
 end_there cs some (inr ends) = ends
 
-module _ (base : Store ℕ) (given : Names) (survey : Surveyed) (out0 : Option (List ℕ)) (now : Kept) (out_now : Option (List ℕ)) (before place : Place) (files : List (List ℕ)) (e : AtEnd base given survey out0 now out_now before place files) where
+module _ (base : Store ℕ) (given : Overrides) (survey : Surveyed) (out0 : Option (List ℕ)) (now : Kept) (out_now : Option (List ℕ)) (before place : Place) (files : List (List ℕ)) (e : AtEnd base given survey out0 now out_now before place files) where
   -- The stream has begun exactly where the head that came last is that of the last part.
   begun_is : is_some now.latest ≡ is_at_last now.latest survey.last
   begun_is = sym (ap (is_at_last now.latest) (e.last ∙ sym e.latest) ∙ same_last now.latest)
 
   -- What was sent is no whole stream.
-  sent_short : IsStoppedOf base (renamed given (input files)) e.sent
+  sent_short : IsStoppedOf base (overridden given (input files)) e.sent
   sent_short =
-      subst (IsStoppedOf base (renamed given (input files))) (take-append_seam e.sent now.pending)
+      subst (IsStoppedOf base (overridden given (input files))) (take-append_seam e.sent now.pending)
       (stopped_ahead base given files e.items ended e.number [] (composing_of files base now) e.sent (length e.sent) e.known.ready e.ahead e.progress (omega (arith, length-append e.sent now.pending)))
 
   -- No part has begun.
@@ -397,7 +397,7 @@ module _ (base : Store ℕ) (given : Names) (survey : Surveyed) (out0 : Option (
         },
       )
     where
-      by_item : (o : Option Item) → last_item e.items ≡ o → (o ≡ None → ⊥) → e.sent ≡ whole_output_of base (renamed given (input files))
+      by_item : (o : Option Item) → last_item e.items ≡ o → (o ≡ None → ⊥) → e.sent ≡ whole_output_of base (overridden given (input files))
       by_item None is there = absurd (there refl)
       by_item (Some item) is there = nothing_ahead base given files e.items item ended e.number (composing_of files base now) e.sent e.known.ready e.ahead refl e.progress (begun_is ∙ not_last) is
 
@@ -405,7 +405,7 @@ module _ (base : Store ℕ) (given : Names) (survey : Surveyed) (out0 : Option (
       by_files [] some w n = some refl
       by_files (bytes ∷ after) some w n = input_some bytes after w n
 
-      by_last : (o : Option Item) → last_item e.items ≡ o → (o ≡ None → ⊥) → IsLastPlace before place o → reading_due base (renamed given (input files)) ≡ RefusedAt (verdict_meant verdict)
+      by_last : (o : Option Item) → last_item e.items ≡ o → (o ≡ None → ⊥) → IsLastPlace before place o → reading_due base (overridden given (input files)) ≡ RefusedAt (verdict_meant verdict)
       by_last None is there p = absurd (there refl)
       by_last (Some item) is there p =
           empty_ahead base given files e.items item ended e.number (composing_of files base now) e.sent e.ahead refl e.progress (begun_is ∙ not_last) is
@@ -417,34 +417,34 @@ module _ (base : Store ℕ) (given : Names) (survey : Surveyed) (out0 : Option (
           )
 
   module _ (at_last : is_at_last now.latest survey.last ≡ true) where
-    some_heads : heads (renamed given (input files)).items ≢ []
+    some_heads : heads (overridden given (input files)).items ≢ []
     some_heads none =
         let whole = ahead_whole files e.items ended e.number e.ahead refl in
-        let no_last : last_head (heads (renamed_items given e.items)) ≡ None = ap (λ (r : Reading). last_head (heads (renamed_items given r.items))) (sym whole) ∙ ap last_head none in
+        let no_last : last_head (heads (overridden_items given e.items)) ≡ None = ap (λ (r : Reading). last_head (heads (overridden_items given r.items))) (sym whole) ∙ ap last_head none in
         false≢true (ap is_some (sym (e.latest ∙ no_last)) ∙ begun_is ∙ at_last)
 
     heads_read : heads (input files).items ≢ []
-    heads_read none = some_heads (no_heads (heads (renamed given (input files)).items) ((keeps_all_else given (input files).items).heads_count ∙ ap length none))
+    heads_read none = some_heads (no_heads (heads (overridden given (input files)).items) ((keeps_all_else given (input files).items).heads_count ∙ ap length none))
 
-    is_whole : IsWhole (renamed given (input files))
+    is_whole : IsWhole (overridden given (input files))
     is_whole =
         let whole : (input files).end ≡ Whole = ap (λ (r : Reading). r.end) (ahead_whole files e.items ended e.number e.ahead refl) in
         let ends = end_there (commands_of (input files).items) heads_read (input_ends files whole) in
         let still = still_ends given (input files).items ends.0 ends.1 in
         record { whole = whole; others = still.0; ends = still.1; writable = e.known.read.writable }
 
-    headline : IsComposedOf base (renamed given (input files)) ((e.sent ++ now.pending) ++ canonical (version_of (renamed given (input files)).items) End)
+    headline : IsComposedOf base (overridden given (input files)) ((e.sent ++ now.pending) ++ canonical (version_of (overridden given (input files)).items) End)
     headline =
-        let all : List Item = (renamed given (input files)).items in
+        let all : List Item = (overridden given (input files)).items in
         let b : Store ℕ = base_of base all in
-        let P : Store ℕ → Type 0 = λ x. FindsSayable x (keys_outside all) → Progress (plan_for x given files) (renamed_items given e.items) (composing_of files base now) e.sent
-        → IsComposedOf x (renamed given (input files)) ((e.sent ++ now.pending) ++ canonical (version_of all) End) in
+        let P : Store ℕ → Type 0 = λ x. FindsSayable x (keys_outside all) → Progress (plan_for x given files) (overridden_items given e.items) (composing_of files base now) e.sent
+        → IsComposedOf x (overridden given (input files)) ((e.sent ++ now.pending) ++ canonical (version_of all) End) in
         subst P e.known.base_is (λ sayable progress. composed_ahead readings_hold base given files e.items ended e.number (composing_of files base now) e.sent is_whole sayable e.ahead refl progress (begun_is ∙ at_last)) e.known.sayable e.progress
 
     -- All is written, with END.
-    all_done : (out_next : Option (List ℕ)) → Appends out_now out_next (now.pending ++ canonical (version_of (renamed given (input files)).items) End) → Wrote out0 out_next (ComposeEnds base given files over.Done)
+    all_done : (out_next : Option (List ℕ)) → Appends out_now out_next (now.pending ++ canonical (version_of (overridden given (input files)).items) End) → Wrote out0 out_next (ComposeEnds base given files over.Done)
     all_done out_next sent =
-        let last : List ℕ = canonical (version_of (renamed given (input files)).items) End in
+        let last : List ℕ = canonical (version_of (overridden given (input files)).items) End in
         let done = done_ahead base given files e.items ended e.number (composing_of files base now) e.sent e.ahead refl e.progress (begun_is ∙ at_last) in (
           e.sent ++ (now.pending ++ last),
           Appends-trans out0 out_now out_next e.sent (now.pending ++ last) e.appends sent,
@@ -453,16 +453,16 @@ module _ (base : Store ℕ) (given : Names) (survey : Surveyed) (out0 : Option (
         )
 
     -- The output failed before all was written.
-    end_unsent : (out_next : Option (List ℕ)) → AppendsPart out_now out_next (now.pending ++ canonical (version_of (renamed given (input files)).items) End) → Wrote out0 out_next (ComposeEnds base given files over.OutputFault)
+    end_unsent : (out_next : Option (List ℕ)) → AppendsPart out_now out_next (now.pending ++ canonical (version_of (overridden given (input files)).items) End) → Wrote out0 out_next (ComposeEnds base given files over.OutputFault)
     end_unsent out_next (count, short, sent) =
-        let last : List ℕ = canonical (version_of (renamed given (input files)).items) End in
+        let last : List ℕ = canonical (version_of (overridden given (input files)).items) End in
         let rest : List ℕ = now.pending ++ last in
         let same : take (length e.sent + count) ((e.sent ++ now.pending) ++ last) ≡ e.sent ++ take count rest = ap (take (length e.sent + count)) (append_assoc e.sent now.pending last) ∙ take-append-add e.sent rest count in
         let within : length e.sent + count < length ((e.sent ++ now.pending) ++ last) = omega (arith, short, length-append e.sent rest, ap length (append_assoc e.sent now.pending last)) in (
           e.sent ++ take count rest,
           Appends-trans out0 out_now out_next e.sent (take count rest) e.appends sent,
           record {
-            ends = subst (IsStoppedOf base (renamed given (input files))) same (stopped_end_ahead base given files e.items ended e.number (composing_of files base now) e.sent (length e.sent + count) e.known.ready e.ahead refl e.progress (begun_is ∙ at_last) within);
+            ends = subst (IsStoppedOf base (overridden given (input files))) same (stopped_end_ahead base given files e.items ended e.number (composing_of files base now) e.sent (length e.sent + count) e.known.ready e.ahead refl e.progress (begun_is ∙ at_last) within);
             composed = λ q. cc;
             refused = λ v q. cc;
           },
@@ -473,11 +473,11 @@ module _ (base : Store ℕ) (given : Names) (survey : Surveyed) (out0 : Option (
   end_unmade out_next sent = (
     e.sent ++ [],
     Appends-trans out0 out_now out_next e.sent [] e.appends sent,
-    record { ends = subst (IsStoppedOf base (renamed given (input files))) (sym (append-nil e.sent)) sent_short; composed = λ q. cc; refused = λ v q. cc },
+    record { ends = subst (IsStoppedOf base (overridden given (input files))) (sym (append-nil e.sent)) sent_short; composed = λ q. cc; refused = λ v q. cc },
   )
 
   -- END was to be written.
-  by_end : (out_next : Option (List ℕ)) (f0 f1 : ℕ) (result : Result (Unit {0}) SendStop) → is_at_last now.latest survey.last ≡ true → EndEnd (now.pending ++ canonical (version_of (renamed given (input files)).items) End) out_now out_next f0 f1 result
+  by_end : (out_next : Option (List ℕ)) (f0 f1 : ℕ) (result : Result (Unit {0}) SendStop) → is_at_last now.latest survey.last ≡ true → EndEnd (now.pending ++ canonical (version_of (overridden given (input files)).items) End) out_now out_next f0 f1 result
       → Wrote out0 out_next (ComposeEnds base given files (outcome_in (answer_with result)))
   by_end out_next f0 f1 (Ok done) at_last sent = all_done at_last out_next sent
   by_end out_next f0 f1 (Err stopped.OutputFault) at_last (rose, part) = end_unsent at_last out_next part
@@ -488,10 +488,10 @@ module _ (base : Store ℕ) (given : Names) (survey : Surveyed) (out0 : Option (
 -- ---- the ends, where the inputs tell their files
 
 -- After the last of some files.
-Ended : Store ℕ → Names → Surveyed → Option (List ℕ) → Kept → Option (List ℕ) → Place → Place → List (List ℕ) → Type 0
+Ended : Store ℕ → Overrides → Surveyed → Option (List ℕ) → Kept → Option (List ℕ) → Place → Place → List (List ℕ) → Type 0
 Ended base given survey out0 now out_now before place files = AtEnd base given survey out0 now out_now before place files × (files ≢ [])
 
-ended_all : {Z : Type 0} (told : Option (List (List ℕ × List ℕ))) (names : List (String Z)) (base : Store ℕ) (given : Names) (survey : Surveyed) (old : Kept) (out0 : Option (List ℕ)) (number : ℕ) (now : Kept) (out_now : Option (List ℕ)) (before place : Place)
+ended_all : {Z : Type 0} (told : Option (List (List ℕ × List ℕ))) (names : List (String Z)) (base : Store ℕ) (given : Overrides) (survey : Surveyed) (old : Kept) (out0 : Option (List ℕ)) (number : ℕ) (now : Kept) (out_now : Option (List ℕ)) (before place : Place)
     → names ≢ [] → length names ≤ number → IfAllTold told (map string_bytes names) (HasBegun base given survey old) → IfAllTold told (map string_bytes names) (FilesStand (plan_with base survey) given old out0 number now out_now before place)
     → IfAllTold told (map string_bytes names) (Ended base given survey out0 now out_now before place)
 unfolding Ended
@@ -506,7 +506,7 @@ ended_all {Z} (Some table) names base given survey old out0 number now out_now b
     by_names (n ∷ ns) some = λ none. cc
 
 -- No part has begun.
-pub files_empty : {Z : Type 0} (told : Option (List (List ℕ × List ℕ))) (names : List (String Z)) (base : Store ℕ) (given : Names) (survey : Surveyed) (old : Kept) (out0 : Option (List ℕ)) (number : ℕ) (now : Kept) (out_now : Option (List ℕ)) (before place : Place) (verdict : Verdict)
+pub files_empty : {Z : Type 0} (told : Option (List (List ℕ × List ℕ))) (names : List (String Z)) (base : Store ℕ) (given : Overrides) (survey : Surveyed) (old : Kept) (out0 : Option (List ℕ)) (number : ℕ) (now : Kept) (out_now : Option (List ℕ)) (before place : Place) (verdict : Verdict)
     → names ≢ [] → length names ≤ number → is_at_last now.latest survey.last ≡ false → verdict_meant verdict ≡ record { file = place.file; command = place.command; offset = place.offset; refusal = NotConsecutive }
     → IfAllTold told (map string_bytes names) (HasBegun base given survey old) → IfAllTold told (map string_bytes names) (FilesStand (plan_with base survey) given old out0 number now out_now before place)
     → IfAllTold told (map string_bytes names) (λ files. Wrote out0 out_now (ComposeEnds base given files (over.Refused verdict)))
@@ -516,7 +516,7 @@ files_empty told names base given survey old out0 number now out_now before plac
     (λ files e. none_begun base given survey out0 now out_now before place files e.0 verdict e.1 not_last verdict_is) (ended_all told names base given survey old out0 number now out_now before place some past b stands)
 
 -- END was to be written.
-pub files_ended : {Z : Type 0} (told : Option (List (List ℕ × List ℕ))) (names : List (String Z)) (base : Store ℕ) (given : Names) (survey : Surveyed) (old : Kept) (out0 : Option (List ℕ)) (number : ℕ) (now : Kept) (out_now out_next : Option (List ℕ)) (before place : Place) (version f0 f1 : ℕ) (result : Result (Unit {0}) SendStop) (answer : Result (Unit {0}) Outcome)
+pub files_ended : {Z : Type 0} (told : Option (List (List ℕ × List ℕ))) (names : List (String Z)) (base : Store ℕ) (given : Overrides) (survey : Surveyed) (old : Kept) (out0 : Option (List ℕ)) (number : ℕ) (now : Kept) (out_now out_next : Option (List ℕ)) (before place : Place) (version f0 f1 : ℕ) (result : Result (Unit {0}) SendStop) (answer : Result (Unit {0}) Outcome)
     → names ≢ [] → length names ≤ number → is_at_last now.latest survey.last ≡ true → version ≡ survey.version → EndEnd (now.pending ++ canonical version End) out_now out_next f0 f1 result → answer ≡ answer_with result
     → IfAllTold told (map string_bytes names) (HasBegun base given survey old) → IfAllTold told (map string_bytes names) (FilesStand (plan_with base survey) given old out0 number now out_now before place)
     → IfAllTold told (map string_bytes names) (λ files. Wrote out0 out_next (ComposeEnds base given files (outcome_in answer)))
@@ -528,15 +528,15 @@ files_ended told names base given survey old out0 number now out_now out_next be
 
 -- ---- the survey came to no end
 
-pub survey_stopped : (told : Option (List (List ℕ × List ℕ))) (names : List (List ℕ)) (base : Store ℕ) (given : Names) (out : Option (List ℕ)) (outcome : Outcome) → IfAllTold told names (SurveyStop outcome) → IfAllTold told names (λ files. Wrote out out (ComposeEnds base given files outcome))
+pub survey_stopped : (told : Option (List (List ℕ × List ℕ))) (names : List (List ℕ)) (base : Store ℕ) (given : Overrides) (out : Option (List ℕ)) (outcome : Outcome) → IfAllTold told names (SurveyStop outcome) → IfAllTold told names (λ files. Wrote out out (ComposeEnds base given files outcome))
 survey_stopped told names base given out outcome stops = all_map told names (SurveyStop outcome) (λ files. Wrote out out (ComposeEnds base given files outcome)) (λ files why. ([], Appends-nil out, by_outcome files outcome why)) stops
   where
     by_outcome : (files : List (List ℕ)) (x : Outcome) → SurveyStop x files → ComposeEnds base given files x []
     by_outcome files over.Done why = elim why [ ]
     by_outcome files (over.Refused verdict) why = elim why [ ]
     by_outcome files (over.TooMuch sum) why = elim why [ ]
-    by_outcome files over.InputFault why = record { ends = nothing_stopped base (renamed given (input files)); composed = λ e. cc; refused = λ v e. cc }
+    by_outcome files over.InputFault why = record { ends = nothing_stopped base (overridden given (input files)); composed = λ e. cc; refused = λ v e. cc }
     by_outcome files over.OutputFault why = elim why [ ]
-    by_outcome files over.NoMemory why = record { ends = nothing_stopped base (renamed given (input files)); composed = λ e. cc; refused = λ v e. cc }
-    by_outcome files (over.InputTooLong n) long = record { ends = ends_too_long 1 2 base given files [] n long (nothing_stopped base (renamed given (input files))); composed = λ e. cc; refused = λ v e. cc }
+    by_outcome files over.NoMemory why = record { ends = nothing_stopped base (overridden given (input files)); composed = λ e. cc; refused = λ v e. cc }
+    by_outcome files (over.InputTooLong n) long = record { ends = ends_too_long 1 2 base given files [] n long (nothing_stopped base (overridden given (input files))); composed = λ e. cc; refused = λ v e. cc }
     by_outcome files (over.InputChanged n at) why = elim why [ ]

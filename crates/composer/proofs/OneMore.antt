@@ -1,4 +1,5 @@
--- The definitions of composing are folds over items: what they give for items and then others. And before the first head.
+-- The definitions of composing are folds over items: what they give for items and then others. And
+-- before the first head.
 use Rattle.std.specs.Prelude.{◌≡◌, ℕ, ◌+◌, ◌≤◌, Bool, true, false, List, [], ◌∷◌, ◌++◌, map, Option, None, Some, nat_lt, if◌then◌else◌}
 use Rattle.std.proofs.Common.{refl, sym, ap, subst, ◌∙◌, arith, append_assoc}
 use Rattle.std.proofs.lemmas.Bool.{false≢true, ltb-true}
@@ -59,7 +60,8 @@ due_on item None false sum rest e b low = one (nat_lt most_literal sum) refl
 due_on item None true sum rest e b low = cc
 due_on item (Some r) breaks sum rest e b low = cc
 
--- Items that are taken in order, and do not come to too many bytes, leave the answer to those after them.
+-- Items that are taken in order, and do not come to too many bytes, leave the answer to those after
+-- them.
 pub due_done : (base : Store ℕ) (parts : List (List ℕ)) (items more : List Item) (state end : State Traced) (previous : Option Key) (current : Option (List ℕ)) (sum : ℕ)
     → AreTaken state items end → AreOrdered previous items → sum + uncarried_in base (ranges_from parts state current items) ≤ most_literal
     → due_from base parts (come_to state previous current sum) (items ++ more) ≡ due_from base parts (come_to end (previous_after previous items) (current_after current items) (sum + uncarried_in base (ranges_from parts state current items))) more
@@ -98,7 +100,8 @@ no_head_first : (o : Option Head) (hs : List Head) → onto_heads o hs ≡ [] �
 no_head_first None hs e = (refl, e)
 no_head_first (Some h) hs e = cc
 
--- Items without a head that are taken where no part has begun change nothing and stand for no command.
+-- Items without a head that are taken where no part has begun change nothing and stand for no
+-- command.
 pub quiet : (store : Store ℕ) (parts : List (List ℕ)) (last : Key) (items : List Item) (current : Option (List ℕ)) (start : Store Traced) (end : State Traced) → heads_of (commands_of items) ≡ [] → AreTaken (start_of start) items end
     → (composed_from store parts last (start_of start) current items ≡ []) × (end ≡ start_of start)
 unfolding composed_from heads_of step completed

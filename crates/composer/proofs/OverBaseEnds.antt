@@ -1,5 +1,5 @@
--- How composing over any base ends: with all items taken, the answer that is due and the composed stream; and where an item is not
--- taken, the answer that is due.
+-- How composing over any base ends: with all items taken, the answer that is due and the composed
+-- stream; and where an item is not taken, the answer that is due.
 use Rattle.std.specs.Prelude.{◌≡◌, ◌≢◌, ℕ, ◌+◌, ◌≤◌, List, [], ◌∷◌, ◌++◌, map, Option, None, Some, Err}
 use Rattle.std.proofs.Common.{refl, sym, ap, ap₂, subst, ◌∙◌, arith, append-nil}
 use Rattle.send_model.specs.Refusal.{NotConsecutive}
@@ -53,7 +53,8 @@ due_halted base reading items item more now sent halt is p e =
     ap (λ (o : Option Due). or_due o (refused_due (first_of (fault_of reading.end) (without_parts reading.items (heads reading.items)))))
     (due_after base reading items (item ∷ more) now sent is p ∙ advance_err (plan_of base reading.items) item more now halt known e)
 
--- Where all items were taken: the fault that ended the reading, or that there is no part, or that all was done.
+-- Where all items were taken: the fault that ended the reading, or that there is no part, or that
+-- all was done.
 pub due_at_end : (base : Store ℕ) (reading : Reading) (now : Composing) (sent : List ℕ) → Progress (plan_of base reading.items) reading.items now sent
     → reading_due base reading ≡ refused_due (first_of (fault_of reading.end) (without_parts reading.items (heads reading.items)))
 unfolding due_from

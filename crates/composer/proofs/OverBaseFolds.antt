@@ -1,4 +1,5 @@
--- Composing over any base does the same whatever was sent before, and items one after the other are items all at once.
+-- Composing over any base does the same whatever was sent before, and items one after the other are
+-- items all at once.
 use Rattle.std.specs.Prelude.{◌≡◌, ℕ, Bool, true, false, ◌||◌, List, [], ◌∷◌, ◌++◌, Option, None, Some, Result, Ok, Err, nat_lt, if◌then◌else◌}
 use Rattle.std.proofs.Common.{refl, sym, ap, ◌∙◌, append_assoc, append-nil}
 use Rattle.send_model.specs.Refusal.{Refusal}

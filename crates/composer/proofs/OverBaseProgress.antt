@@ -1,5 +1,5 @@
--- Composing over any base keeps what the definitions say of the items so far: their run, their order, their sum of uncarried bytes,
--- and the bytes of the composed commands.
+-- Composing over any base keeps what the definitions say of the items so far: their run, their
+-- order, their sum of uncarried bytes, and the bytes of the composed commands.
 use Rattle.std.specs.Prelude.{◌≡◌, ℕ, ◌+◌, ◌≤◌, Bool, true, false, ◌||◌, List, [], ◌∷◌, ◌++◌, Option, None, Some, Result, Ok, Err, is_some, nat_lt, if◌then◌else◌}
 use Rattle.std.proofs.Common.{refl, sym, ap, ap₂, subst, ◌∙◌, arith, append_assoc, append-nil}
 use Rattle.std.proofs.lemmas.Bool.{ltb-false}
@@ -25,7 +25,8 @@ use Rattle.composer.proofs.OneMore.{AreTaken-append, current_after-append, compo
 abbrev pub base_start : Plan → State Traced
 base_start plan = start_of (traced_store plan.base)
 
--- The items so far were taken in order, and what was sent with what is pending is what they stand for.
+-- The items so far were taken in order, and what was sent with what is pending is what they stand
+-- for.
 pub record Progress (plan : Plan) (items : List Item) (now : Composing) (sent : List ℕ) : Type 0 where
   pub taken : AreTaken (base_start plan) items now.state
   pub ordered : AreOrdered None items
@@ -225,7 +226,8 @@ foreseen last None known = refl
 foreseen (Some last) (Some head) known = refl
 foreseen None (Some head) known = absurd (let k = known head refl in (let e = k.1 in cc))
 
--- An item that is not taken, where a head was foreseen, is the first that ends composing, with the answer that is due.
+-- An item that is not taken, where a head was foreseen, is the first that ends composing, with the
+-- answer that is due.
 pub advance_err : (plan : Plan) (item : Item) (more : List Item) (now : Composing) (halt : Halt) → ((head : Head) → head_of item.command ≡ Some head → (last : Head) × (plan.last ≡ Some last))
     → advance plan now item ≡ Err halt → due_from plan.base plan.parts (come_to now.state now.previous now.current now.sum) (item ∷ more) ≡ Some (halt_due item halt)
 unfolding advance due_from

@@ -1,5 +1,5 @@
--- Where an item is refused, or reading ends at a fault or with no part: what stands for the items before that place is all that is due
--- to be written.
+-- Where an item is refused, or reading ends at a fault or with no part: what stands for the items
+-- before that place is all that is due to be written.
 use Rattle.std.specs.Prelude.{◌≡◌, ℕ, Bool, true, false, ◌||◌, List, [], ◌∷◌, ◌++◌, Option, None, Some, Ok, Err, nat_lt, if◌then◌else◌}
 use Rattle.std.proofs.Common.{refl, sym, ap, ◌∙◌, append-nil}
 use Rattle.send_model.specs.Refusal.{Refusal}
@@ -90,7 +90,8 @@ module _ (base : Store ℕ) (all items more : List Item) (none : HasNone base (p
       by_first None = refl
       by_first (Some first) = ap (λ (edits : List Command). stream_front (version_of all) (head_command last.name last.key first.parent ∷ edits)) (sym (edits_alike last.key))
 
--- What was sent, with what is pending, is all that is due where something is refused, and nothing lawful follows the items.
+-- What was sent, with what is pending, is all that is due where something is refused, and nothing
+-- lawful follows the items.
 pub refused_whole : (base : Store ℕ) (reading : Reading) (items more : List Item) (now : Composing) (sent : List ℕ) (verdict : Verdict) → HasNone base (part_uuids reading.items) → reading.items ≡ items ++ more
     → Progress (plan_of base reading.items) items now sent → lawful_items 0 byte_cells (recelled_state byte_of now.state) now.previous more ≡ [] → reading_due base reading ≡ RefusedAt verdict
     → sent ++ now.pending ≡ whole_output_of base reading

@@ -1,4 +1,5 @@
--- One item of composing over any base, from its step over cells that are an origin or zero, and from what follows the step.
+-- One item of composing over any base, from its step over cells that are an origin or zero, and
+-- from what follows the step.
 use Rattle.std.specs.Prelude.{◌≡◌, ◌<◌, ℕ, ◌+◌, ◌||◌, List, map, length, take, drop, get_or, Option, None, Some, Result, Ok, Err}
 use Rattle.std.specs.List.{range_with_len}
 use Rattle.std.proofs.Common.{sym, ap, ap₂, subst, ◌∙◌, arith}
@@ -60,7 +61,8 @@ stops_there plan now state item refusal e =
 
 -- ---- data
 
--- A run of cells from an origin is seen as the bytes that are written, where each cell is seen as the byte at its place among them.
+-- A run of cells from an origin is seen as the bytes that are written, where each cell is seen as
+-- the byte at its place among them.
 pub put_seen : {O : Type 0} (byte : O → ℕ) (place : O → Option Place) (advanced : O → ℕ → O) (origin : O) (item : Item)
     → ((k : ℕ) → k < length (bytes_of item.command) → (byte (advanced origin k) ≡ get_or (bytes_of item.command) k 0) × (place (advanced origin k) ≡ None)) → IsSeenAs byte place advanced origin item
 unfolding run_cells

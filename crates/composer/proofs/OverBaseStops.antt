@@ -1,4 +1,5 @@
--- Where composing over any base stops: what was written is a front part of all that is due to be written, and not a whole stream.
+-- Where composing over any base stops: what was written is a front part of all that is due to be
+-- written, and not a whole stream.
 use Rattle.std.specs.Prelude.{◌≡◌, ◌≢◌, ℕ, ◌<◌, ◌≤◌, Bool, true, false, ◌||◌, List, [], ◌∷◌, ◌++◌, map, length, take, Option, None, Some}
 use Rattle.std.specs.List.{AllByRecursion}
 use Rattle.std.specs.Str.{bytes_eq}
@@ -141,7 +142,8 @@ by_verdict : (base : Store ℕ) (all : List Item) (written : List ℕ) (o : Opti
 by_verdict base all written None whole before = whole
 by_verdict base all written (Some verdict) whole before = before
 
--- What was written for items that were taken is a front part of all that is due to be written, over a base without the parts.
+-- What was written for items that were taken is a front part of all that is due to be written, over
+-- a base without the parts.
 pub front : (base : Store ℕ) (reading : Reading) (items more : List Item) (now : Composing) (sent : List ℕ) (count : ℕ) → HasNone base (part_uuids reading.items) → reading.items ≡ items ++ more
     → Progress (plan_of base reading.items) items now sent → IsFrontOf (whole_output_of base reading) (take count (sent ++ now.pending))
 front base reading items more now sent count none is p =
@@ -159,7 +161,8 @@ front base reading items more now sent count none is p =
 
 -- ---- no whole stream
 
--- No front part of what was written so far is read as whole, where each command that stands for the items can be written.
+-- No front part of what was written so far is read as whole, where each command that stands for the
+-- items can be written.
 pub unfinished : (plan : Plan) (items : List Item) (now : Composing) (sent : List ℕ) (count : ℕ) → is_version plan.version ≡ true → AreWritable plan items → Progress plan items now sent
     → count ≤ length (sent ++ now.pending) → IsUnfinished (take count (sent ++ now.pending))
 unfinished plan items now sent count is writable p within =
@@ -188,7 +191,8 @@ unfinished_end plan items now sent first last count is writable p f l h =
 
 -- ---- where composing stops
 
--- Wherever it stops before END, whatever the reason, what was written is no whole stream, and a front part of all that is due.
+-- Wherever it stops before END, whatever the reason, what was written is no whole stream, and a
+-- front part of all that is due.
 pub stopped : (base : Store ℕ) (reading : Reading) (items more : List Item) (now : Composing) (sent : List ℕ) (count : ℕ) → HasNone base (part_uuids reading.items) → reading.items ≡ items ++ more
     → is_version (version_of reading.items) ≡ true → AreWritable (plan_of base reading.items) items → Progress (plan_of base reading.items) items now sent → count ≤ length (sent ++ now.pending)
     → IsStoppedOf base reading (take count (sent ++ now.pending))

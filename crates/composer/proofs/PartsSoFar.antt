@@ -1,5 +1,6 @@
--- Which clones are redirected, and what stands for them, does not depend on the parts after the items: the uuids of the parts so far
--- serve as well as those of all, since a clone that is taken names a part so far or a subvolume of the base, which has no part.
+-- Which clones are redirected, and what stands for them, does not depend on the parts after the
+-- items: the uuids of the parts so far serve as well as those of all, since a clone that is taken
+-- names a part so far or a subvolume of the base, which has no part.
 use Rattle.std.specs.Prelude.{◌≡◌, ◌⊎◌, ℕ, Bool, true, false, not, ◌&&◌, List, [], ◌∷◌, ◌++◌, map, Option, None, Some, Result, Ok, if◌then◌else◌}
 use Rattle.std.specs.List.{AllByRecursion, flat_map}
 use Rattle.std.specs.Option.{option_map}

@@ -1,4 +1,5 @@
--- Before the first file: what the composer keeps is what composing keeps by its definition, and its cells are had; and over no base.
+-- Before the first file: what the composer keeps is what composing keeps by its definition, and its
+-- cells are had; and over no base.
 use Rattle.std.specs.Prelude.{◌≡◌, ℕ, false, List, [], Option, None, Some}
 use Rattle.std.proofs.Common.{refl, sym, ap, subst, arith}
 use Rattle.send_model.specs.Store.{Store, find}

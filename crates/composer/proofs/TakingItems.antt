@@ -1,4 +1,5 @@
--- One item that the composer takes or does not take, from the step of its command, and from what it adds.
+-- One item that the composer takes or does not take, from the step of its command, and from what it
+-- adds.
 use Rattle.std.specs.Prelude.{◌≡◌, ◌⊎◌, ◌<◌, ◌≤◌, ℕ, zero, suc, ◌+◌, ◌-◌, ◌||◌, ◌&&◌, not, Bool, true, false, map, List, [], ◌++◌, get_or, Option, None, Some, Result, Ok, Err, is_some, nat_lt, if◌then◌else◌}
 use Rattle.std.specs.Option.{option_map}
 use Rattle.std.specs.List.{AllByRecursion, range_with_len}

@@ -1,5 +1,6 @@
 -- The words of contracts unpacked: what they speak of part by part, as the lemmas name it.
 use Rattle.std.specs.Prelude.{ℕ, List, Option, Result}
+use Rattle.send_model.specs.Overridden.{Override}
 use Rattle.send_model.specs.Command.{Command}
 use Rattle.send_model.specs.Store.{Key, Store}
 use Rattle.send_model.specs.Provenance.{Traced}
@@ -57,11 +58,11 @@ StopEnd pending left out_old out_new before now outcome result = taking.StopEnd 
 
 -- ---- how a file ends
 
-abbrev pub FileTaken : (files : List (List ℕ)) (plan : Plan) (file : ℕ) (given : Option (List ℕ)) (old new : Kept) (out_old out_new : Option (List ℕ)) (before place : Place) (bytes : List ℕ) → Type 0
+abbrev pub FileTaken : (files : List (List ℕ)) (plan : Plan) (file : ℕ) (given : Override) (old new : Kept) (out_old out_new : Option (List ℕ)) (before place : Place) (bytes : List ℕ) → Type 0
 FileTaken files plan file given old new out_old out_new before place bytes = filing.FileTaken (over files plan) (one_file file given bytes) (reached old out_old) (reached new out_new) before place
 
-abbrev pub FileWhy : (plan : Plan) (file : ℕ) (given : Option (List ℕ)) (now : Composing) (rest : Reading) (outcome : Outcome) (bytes : List ℕ) → Type 0
+abbrev pub FileWhy : (plan : Plan) (file : ℕ) (given : Override) (now : Composing) (rest : Reading) (outcome : Outcome) (bytes : List ℕ) → Type 0
 FileWhy plan file given now rest outcome bytes = filing.FileWhy plan (one_file file given bytes) now rest outcome
 
-abbrev pub FileStops : (files : List (List ℕ)) (plan : Plan) (file : ℕ) (given : Option (List ℕ)) (old : Kept) (out_old out_new : Option (List ℕ)) (outcome : Outcome) (bytes : List ℕ) → Type 0
+abbrev pub FileStops : (files : List (List ℕ)) (plan : Plan) (file : ℕ) (given : Override) (old : Kept) (out_old out_new : Option (List ℕ)) (outcome : Outcome) (bytes : List ℕ) → Type 0
 FileStops files plan file given old out_old out_new outcome bytes = filing.FileStops (over files plan) (one_file file given bytes) (reached old out_old) out_new outcome

@@ -1,4 +1,5 @@
--- What an item adds whose step was taken: where a head stands out of order, and what is written for edits.
+-- What an item adds whose step was taken: where a head stands out of order, and what is written for
+-- edits.
 use Rattle.std.specs.Prelude.{◌≡◌, ◌⊎◌, ℕ, ◌+◌, ◌<◌, ◌≤◌, Bool, true, ◌||◌, List, [], ◌∷◌, Option, None, Some, Result, Ok, Err, if◌then◌else◌}
 use Rattle.send_model.specs.Command.{Command}
 use Rattle.send_model.specs.Spelling.{canonical_all}
@@ -42,8 +43,9 @@ pub record Addition : Type 0 where
   pub uncarried : ℕ
   pub bytes : List ℕ
 
--- It goes out, and the sum of uncarried bytes is not too great; or it is, and only what was pending is written, and nothing is pending any
--- more; or an object of the outside failed or there is no memory, before a byte of it or in its middle, and what did not go out is pending.
+-- It goes out, and the sum of uncarried bytes is not too great; or it is, and only what was pending
+-- is written, and nothing is pending any more; or an object of the outside failed or there is no
+-- memory, before a byte of it or in its middle, and what did not go out is pending.
 abbrev pub Adds : Addition → (old new : Reached) → Result (Unit {0}) Outcome → Type 0
 Adds it old new (Ok done) = GoesOut old.taken new.taken old.kept.pending new.kept.pending it.bytes × ((new.kept.sum ≡ old.kept.sum + it.uncarried) × (new.kept.sum ≤ most_literal))
 Adds it old new (Err (ended.TooMuch sum)) = (sum ≡ old.kept.sum + it.uncarried) × ((most_literal < sum) × Appends old.taken new.taken old.kept.pending × (new.kept.pending ≡ []))
@@ -58,7 +60,8 @@ Adds it old new (Err ended.Done) = ⊥
 Adds it old new (Err (ended.Refused verdict)) = ⊥
 Adds it old new (Err (ended.InputTooLong file)) = ⊥
 
--- What a command adds to what composing keeps before its step, where the key of the last part is given.
+-- What a command adds to what composing keeps before its step, where the key of the last part is
+-- given.
 abbrev pub addition : Plan → Key → Composing → Command → Addition
 addition plan last now command = record {
   uncarried = uncarried_by plan.base plan.parts now.state now.current command;

@@ -1,5 +1,6 @@
--- What the composer keeps, over traces: the store and the part so far, the head that came last, how many uncarried bytes there are so
--- far, and the bytes that are to be written. With the input files and the base it is what composing keeps by its definition.
+-- What the composer keeps, over traces: the store and the part so far, the head that came last, how
+-- many uncarried bytes there are so far, and the bytes that are to be written. With the input files
+-- and the base it is what composing keeps by its definition.
 use Rattle.std.specs.Prelude.{ℕ, List, [], Option, None, is_some}
 use Rattle.std.specs.Option.{option_map}
 use Rattle.send_model.specs.Store.{Head, Store, State}

@@ -1,5 +1,5 @@
--- What composing keeps between two commands over any base, with redirected clones and in either version; what one command does to
--- it; and what it has written then, by the items so far.
+-- What composing keeps between two commands over any base, with redirected clones and in either
+-- version; what one command does to it; and what it has written then, by the items so far.
 use Rattle.std.specs.Prelude.{◌≡◌, ℕ, ◌+◌, Bool, true, false, ◌||◌, List, [], ◌∷◌, ◌++◌, Option, None, Some, Result, Ok, Err, is_some, nat_lt, if◌then◌else◌}
 use Rattle.send_model.specs.Refusal.{Refusal, NotConsecutive}
 use Rattle.send_model.specs.Command.{Command}
@@ -14,10 +14,11 @@ use Rattle.send_model.specs.Composed.{first_head, last_head, head_command, versi
 use Rattle.send_model.specs.Headline.{stream_front}
 use Rattle.send_model.specs.Laws.{AreInner}
 use Rattle.send_model.specs.Due.{Due, RefusedAt, TooMuch, most_literal, uncarried_of}
-use Rattle.send_model.specs.Renamed.{Names, renamed}
+use Rattle.send_model.specs.Overridden.{Overrides, overridden}
 
--- What is known before the first command: the base, which is the store without the parts; the parts' uuids; the version of the
--- stream that is written; and the last part's head, where there is a part.
+-- What is known before the first command: the base, which is the store without the parts; the
+-- parts' uuids; the version of the stream that is written; and the last part's head, where there is
+-- a part.
 pub record Plan : Type 0 where
   pub base : Store ℕ
   pub parts : List (List ℕ)
@@ -28,9 +29,10 @@ pub record Plan : Type 0 where
 abbrev pub plan_of : Store ℕ → List Item → Plan
 plan_of base items = record { base = base; parts = part_uuids items; version = version_of items; last = last_head (heads items) }
 
--- What is kept between two commands: the store and the part so far, with where their bytes come from; the part that the next head
--- has to follow; the uuid of the part so far; whether the stream has begun; how many bytes of redirected clones came from no
--- outside subvolume; and the bytes that are to be written.
+-- What is kept between two commands: the store and the part so far, with where their bytes come
+-- from; the part that the next head has to follow; the uuid of the part so far; whether the stream
+-- has begun; how many bytes of redirected clones came from no outside subvolume; and the bytes that
+-- are to be written.
 pub record Composing : Type 0 where
   pub state : State Traced
   pub previous : Option Key
@@ -43,7 +45,8 @@ pub record Composing : Type 0 where
 abbrev pub at_start : Plan → Composing
 at_start plan = record { state = start_of (traced_store plan.base); previous = None; current = None; begun = false; sum = 0; pending = [] }
 
--- Why a command is not taken: it is refused, or with it too many bytes come from no outside subvolume.
+-- Why a command is not taken: it is refused, or with it too many bytes come from no outside
+-- subvolume.
 pub data Halt : Type 0 where
   Refuses : Refusal → Halt
   Exceeds : (sum : ℕ) → Halt
@@ -85,7 +88,8 @@ is_unforeseen last None = false
 is_unforeseen None (Some head) = true
 is_unforeseen (Some last) (Some head) = false
 
--- The refusal of the step; or else a head out of order; or else too many bytes; or what is kept then.
+-- The refusal of the step; or else a head out of order; or else too many bytes; or what is kept
+-- then.
 abbrev pub then_kept : Option Refusal → Bool → Composing → Result Composing Halt
 then_kept (Some refusal) unordered next = Err (Refuses refusal)
 then_kept None true next = Err (Refuses NotConsecutive)
@@ -113,8 +117,8 @@ unsent sent now = record now { pending = sent ++ now.pending }
 
 -- ---- the items so far
 
--- The commands that stand for the items so far, where their first head and the last head of all are given; nothing before the
--- first head.
+-- The commands that stand for the items so far, where their first head and the last head of all are
+-- given; nothing before the first head.
 abbrev pub composed_up_to : Plan → Option Head → Head → List Item → List Command
 composed_up_to plan None last items = []
 composed_up_to plan (Some first) last items =
@@ -139,7 +143,8 @@ abbrev pub AreTaken : State Traced → List Item → State Traced → Type 0
 AreTaken state [] end = state ≡ end
 AreTaken state (item ∷ items) end = ((traced_step state item).refusal ≡ None) × AreTaken (traced_step state item).state items end
 
--- Each command that stands for the items so far can be written in the version of the stream, and none of them is END.
+-- Each command that stands for the items so far can be written in the version of the stream, and
+-- none of them is END.
 abbrev pub AreWritable : Plan → List Item → Type 0
 AreWritable plan items = (first last : Head) → first_head (heads items) ≡ Some first → plan.last ≡ Some last
     → AreInner plan.version (composed_up_to plan (Some first) last items)
@@ -147,17 +152,18 @@ AreWritable plan items = (first last : Head) → first_head (heads items) ≡ So
 -- ---- files
 
 -- The plan for files with the names that are given: what reading them once over finds.
-abbrev pub plan_for : Store ℕ → Names → List (List ℕ) → Plan
-plan_for base given files = plan_of base (renamed given (input files)).items
+abbrev pub plan_for : Store ℕ → Overrides → List (List ℕ) → Plan
+plan_for base given files = plan_of base (overridden given (input files)).items
 
 -- A base finds none of the uuids.
 abbrev pub HasNone : Store ℕ → List (List ℕ) → Type 0
 HasNone base uuids = (k : Key) → is_among uuids k.uuid ≡ true → find base k ≡ None
 
--- What is known once the files were read for their heads: the base has none of their parts, the version of the stream is one that is
--- read, and what stands for items that are taken can be written in it.
-pub record AreReady (base : Store ℕ) (given : Names) (files : List (List ℕ)) : Type 0 where
-  pub none : HasNone base (part_uuids (renamed given (input files)).items)
-  pub version : is_version (version_of (renamed given (input files)).items) ≡ true
-  pub writable : (items more : List Item) (end : State Traced) → (renamed given (input files)).items ≡ items ++ more → AreTaken (start_of (traced_store base)) items end
+-- What is known once the files were read for their heads: the base has none of their parts, the
+-- version of the stream is one that is read, and what stands for items that are taken can be
+-- written in it.
+pub record AreReady (base : Store ℕ) (given : Overrides) (files : List (List ℕ)) : Type 0 where
+  pub none : HasNone base (part_uuids (overridden given (input files)).items)
+  pub version : is_version (version_of (overridden given (input files)).items) ≡ true
+  pub writable : (items more : List Item) (end : State Traced) → (overridden given (input files)).items ≡ items ++ more → AreTaken (start_of (traced_store base)) items end
       → AreWritable (plan_for base given files) items

@@ -1,4 +1,5 @@
--- What the composer answers to one item: what it keeps then and what it has written, or why it stops.
+-- What the composer answers to one item: what it keeps then and what it has written, or why it
+-- stops.
 use Rattle.std.specs.Prelude.{◌≡◌, ◌≢◌, ◌⊎◌, ⊤, ℕ, ◌+◌, ◌-◌, ◌<◌, ◌≤◌, Bool, false, ◌&&◌, List, [], ◌++◌, length, take, drop, get_or, Option, None, Some, Result, Ok, Err}
 use Rattle.std.specs.Io.KnownBytes.{Appends}
 use Rattle.send_model.specs.Refusal as meant
@@ -44,8 +45,8 @@ pub record ItemRefused (plan : Plan) (now : Composing) (item : Item) (verdict : 
   pub refused : advance plan now item ≡ Err (Refuses refusal)
   pub verdict_is : verdict_meant verdict ≡ verdict_of item refusal
 
--- Why nothing follows an item: it is refused, or with it there is too much, or there is no memory, or an object of the outside
--- failed. Inputs that tell are not found changed.
+-- Why nothing follows an item: it is refused, or with it there is too much, or there is no memory,
+-- or an object of the outside failed. Inputs that tell are not found changed.
 abbrev pub ItemWhy : Plan → Composing → Composing → Item → Outcome → Type 0
 ItemWhy plan old next item (ended.Refused verdict) = (next ≡ old) × ItemRefused plan old item verdict
 ItemWhy plan old next item (ended.TooMuch sum) = (next ≡ old) × (advance plan old item ≡ Err (Exceeds sum))
@@ -56,7 +57,8 @@ ItemWhy plan old next item (ended.InputChanged file place) = ⊥
 ItemWhy plan old next item (ended.InputTooLong file) = ⊥
 ItemWhy plan old next item ended.Done = ⊥
 
--- Where a command is refused, or there is too much, or a file is too long or found changed, all bytes were written that were then to be written.
+-- Where a command is refused, or there is too much, or a file is too long or found changed, all
+-- bytes were written that were then to be written.
 abbrev pub AllWhereEnded : Outcome → Option (List ℕ) → Option (List ℕ) → List ℕ → Type 0
 AllWhereEnded (ended.Refused verdict) out_old out_new bytes = Appends out_old out_new bytes
 AllWhereEnded (ended.TooMuch sum) out_old out_new bytes = Appends out_old out_new bytes
@@ -67,9 +69,10 @@ AllWhereEnded ended.InputFault out_old out_new bytes = ⊤
 AllWhereEnded ended.OutputFault out_old out_new bytes = ⊤
 AllWhereEnded ended.Done out_old out_new bytes = ⊤
 
--- What became of the bytes that were then to be written. Where the item is refused, or there is too much, all of them were written, and
--- nothing is pending. Where an object of the outside failed or there was no memory, a front part of them had come; of that a front part was written, and
--- the rest is pending.
+-- What became of the bytes that were then to be written. Where the item is refused, or there is too
+-- much, all of them were written, and nothing is pending. Where an object of the outside failed or
+-- there was no memory, a front part of them had come; of that a front part was written, and the
+-- rest is pending.
 abbrev pub LeftBy : Outcome → (out_old out_new : Option (List ℕ)) → (left bytes : List ℕ) → Type 0
 LeftBy (ended.Refused verdict) out_old out_new left bytes = Appends out_old out_new bytes × (left ≡ [])
 LeftBy (ended.TooMuch sum) out_old out_new left bytes = Appends out_old out_new bytes × (left ≡ [])
@@ -80,7 +83,8 @@ LeftBy (ended.InputTooLong file) out_old out_new left bytes = ⊥
 LeftBy (ended.InputChanged file place) out_old out_new left bytes = ⊥
 LeftBy ended.Done out_old out_new left bytes = ⊥
 
--- The item is not taken, or nothing follows it; what became of the bytes that were then to be written.
+-- The item is not taken, or nothing follows it; what became of the bytes that were then to be
+-- written.
 pub record ItemStops (plan : Plan) (old : Composing) (item : Item) (outcome : Outcome) (out_old out_new : Option (List ℕ)) (left : List ℕ) : Type 0 where
   pub next : Composing
   pub why : ItemWhy plan old next item outcome
@@ -109,9 +113,9 @@ pub record AllOut (old new : Output) : Type 0 where
   pub none : new.pending ≡ []
   pub steady : new.faults ≡ old.faults
 
--- The outcome stays, or what is pending was to be written first and the output failed; but where the inputs have failed, or
--- there is no memory, nothing was, and nothing is asked of the output. Else a front part of what is pending was written: all of it, where
--- the output did not fail then.
+-- The outcome stays, or what is pending was to be written first and the output failed; but where
+-- the inputs have failed, or there is no memory, nothing was, and nothing is asked of the output.
+-- Else a front part of what is pending was written: all of it, where the output did not fail then.
 pub record StopEnd (old new : Output) (outcome result : Outcome) : Type 0 where
   pub outcome_is : (result ≡ outcome) ⊎ ((result ≡ ended.OutputFault) × (outcome ≢ ended.InputFault) × (outcome ≢ ended.NoMemory) × Rose old.faults new.faults)
   pub front : AppendsFront old.taken new.taken old.pending
@@ -127,7 +131,8 @@ EndEnd bytes out_old out_new before now (Err stop.NoMemory) = Appends out_old ou
 EndEnd bytes out_old out_new before now (Err stop.InputFault) = ⊥
 EndEnd bytes out_old out_new before now (Err (stop.InputChanged file place)) = ⊥
 
--- Where END did not go out, all else stays: END is pending where the output failed, and not where there was no memory for it.
+-- Where END did not go out, all else stays: END is pending where the output failed, and not where
+-- there was no memory for it.
 abbrev pub EndStands : ℕ → Kept → Kept → Result (Unit {0}) SendStop → Type 0
 EndStands version old new (Ok done) = ⊤
 EndStands version old new (Err stop.OutputFault) = new ≡ record old { pending = old.pending ++ canonical version End }

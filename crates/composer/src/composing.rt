@@ -55,7 +55,8 @@ use uuid::Uuid;
 // The most bytes of redirected clones that are written.
 const MOST_LITERAL: u64 = 1 << 40;
 
-// An edit or END whose step was taken, the bytes of its frame as they came, and the key of the last part.
+// An edit or END whose step was taken, the bytes of its frame as they came, and the key of the last
+// part.
 #[derive(Clone, Copy)]
 struct Edit<'a, 'b> {
     item: &'a Item<'b>,
@@ -74,9 +75,10 @@ struct Range<'a> {
     len: u64,
 }
 
-/// Composes consecutive parts into one stream that stands for them: the first part's head with the name and the key of the
-/// last, then what stands for the edits of all, then END. It keeps no byte of a file. Only the calls of this crate have one, and they
-/// ask nothing more of it once it has answered an error.
+/// Composes consecutive parts into one stream that stands for them: the first part's head with the
+/// name and the key of the last, then what stands for the edits of all, then END. It keeps no byte
+/// of a file. Only the calls of this crate have one, and they ask nothing more of it once it has
+/// answered an error.
 #[derive(Debug, Drop)]
 pub(crate) struct Composer {
     alloc: Global,
@@ -119,15 +121,17 @@ impl Composer {
         }
     }
 
-    /// One item that was read of a file. Where the bytes of its frame are the canonical spelling that is due, they go out as they
-    /// are. What it adds is written where much is pending; of a clone from an
-    /// earlier part what stands for it is written piece by piece, and the bytes of other pieces are read again. What is kept and
-    /// written then is said where `bytes` tells; which head came last is said in any case.
+    /// One item that was read of a file. Where the bytes of its frame are the canonical spelling
+    /// that is due, they go out as they are. What it adds is written where much is pending; of a
+    /// clone from an earlier part what stands for it is written piece by piece, and the bytes of
+    /// other pieces are read again. What is kept and written then is said where `bytes` tells;
+    /// which head came last is said in any case.
     ///
     /// # Errors
-    /// The refusal of the item's command, or `NotConsecutive` at a head that does not name the part before it as its parent or
-    /// where the survey has no last head. `TooMuch` where more than 2^40 bytes of clones from earlier parts come from no
-    /// outside subvolume, before any of the clone with which they are too many is written.
+    /// The refusal of the item's command, or `NotConsecutive` at a head that does not name the part
+    /// before it as its parent or where the survey has no last head. `TooMuch` where more than 2^40
+    /// bytes of clones from earlier parts come from no outside subvolume, before any of the clone
+    /// with which they are too many is written.
     pub fn take<I: Inputs, E: Known, B: OutsideBytes, O: Sink>(
         &mut self,
         read: &ReadItem<'_, '_>,
@@ -233,7 +237,8 @@ impl Composer {
         }
     }
 
-    // A head whose part has begun: the first begins the stream. Where there is no memory nothing changes.
+    // A head whose part has begun: the first begins the stream. Where there is no memory nothing
+    // changes.
     fn begin_part(
         &mut self,
         c: &Command<'_>,
@@ -472,7 +477,8 @@ impl Composer {
         redirect(&cells, &sources, inputs, bytes, &mut self.pending, out).map_err(Outcome::from)
     }
 
-    /// Whether the head that came last is that of the last part. Where no part has begun, it is not.
+    /// Whether the head that came last is that of the last part. Where no part has begun, it is
+    /// not.
     pub fn is_at_last(&self, survey: &Survey) -> bool
         ensures last { result ≡ is_at_last self.now.latest survey.now.last }
     {
@@ -499,9 +505,10 @@ impl Composer {
         self.stopped(Outcome::Refused(place.refused(refusal)), out)
     }
 
-    /// The outcome of a run that ends here. What is pending is written first, so a fault of the output is answered in place of a
-    /// refusal; but where the inputs have failed, or there is no memory, nothing more is asked of the output. Where all went out, nothing
-    /// is pending any more; all else stays.
+    /// The outcome of a run that ends here. What is pending is written first, so a fault of the
+    /// output is answered in place of a refusal; but where the inputs have failed, or there is no
+    /// memory, nothing more is asked of the output. Where all went out, nothing is pending any
+    /// more; all else stays.
     pub fn stopped<O: Sink>(&mut self, outcome: Outcome, out: &mut O) -> Outcome
         ensures later { O.faults out.old ≤ O.faults out.new }
         ensures stops { IsStop outcome → IsStop result }
@@ -515,7 +522,8 @@ impl Composer {
     /// Adds END and writes all that is pending; then nothing is, and all else stays.
     ///
     /// # Errors
-    /// The output failed, and END is pending with what was; or there is no memory, and nothing was written or changed.
+    /// The output failed, and END is pending with what was; or there is no memory, and nothing was
+    /// written or changed.
     #[tactic(auto, using(crate::proofs::EditSpelling::end_short), unfolding(send_commands::specs::Writing::IsWritable, send_model::specs::Command::row))]
     pub fn end<O: Sink>(&mut self, version: u32, out: &mut O) -> Result<(), SendStop>
         requires version { (version ≡ 1) ⊎ (version ≡ 2) }
@@ -536,7 +544,8 @@ impl Composer {
     }
 }
 
-// Adds an item's command as it is: its frame as it came, where that is the canonical spelling of the version, or spelled anew.
+// Adds an item's command as it is: its frame as it came, where that is the canonical spelling of
+// the version, or spelled anew.
 fn put_item<O: Sink>(
     edit: &Edit<'_, '_>,
     version: u32,

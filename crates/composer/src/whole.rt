@@ -5,7 +5,7 @@ ghost use Rattle.send_model.specs.Outside.{store_without, AllSayable};
 ghost use Rattle.send_model.specs.Provenance.{traced_store};
 ghost use Rattle.send_model.specs.Receive.{start_of};
 ghost use Rattle.send_model.specs.Cells.{recelled_store, AllCells};
-ghost use Rattle.send_model.specs.Renamed.{name_for};
+ghost use Rattle.send_model.specs.Overridden.{override_for};
 ghost use Rattle.provenance.specs.Traces.{place_of};
 ghost use Rattle.clone_pieces.specs.Origins.{outside_cells, IsHad, IsInInput, AreAsLong, AreHeld, byte_of_trace};
 ghost use Rattle.clone_pieces.specs.Seen.{seen};
@@ -28,23 +28,24 @@ use clone_pieces::{Known, NoBase, OutsideBytes};
 use clone_resolve::EditCore;
 use cmd_reader::{CmdReader, outcome_of};
 use file_survey::{Place, survey};
-use part_names::{PartNames, given_or, rename};
+use part_names::{Overrides, given_or, override_item};
 use provenance::Trace;
 use std::alloc::Global;
 use sx_base::{Inputs, Outcome, Refusal, Sink};
 
-/// Composes the consecutive parts in the files into one stream and writes it to `out`, over no base. The files are read twice, in
-/// order and one command at a time: first for their heads, then to write. Each head has the name that is given for its file, if one
-/// is, in place of its own. `Done` says that `out` took the composed stream, and
-/// `Refused` gives the verdict on the files; then `out` took all that stands for the commands before. With every outcome but `Done`
-/// what `out` took is no whole stream. `InputTooLong`
-/// gives the first file that is too long, and with `Done` and `Refused` there is none. `InputChanged` gives the file and the place
-/// of the end that the inputs answered last.
+/// Composes the consecutive parts in the files into one stream and writes it to `out`, over no
+/// base. The files are read twice, in order and one command at a time: first for their heads, then
+/// to write. Each head has the name that is given for its file, if one is, in place of its own.
+/// `Done` says that `out` took the composed stream, and `Refused` gives the verdict on the files;
+/// then `out` took all that stands for the commands before. With every outcome but `Done` what
+/// `out` took is no whole stream. `InputTooLong` gives the first file that is too long, and with
+/// `Done` and `Refused` there is none. `InputChanged` gives the file and the place of the end that
+/// the inputs answered last.
 pub fn compose<I: Inputs, O: Sink>(
     alloc: Global,
     inputs: &mut I,
     files: &[String],
-    names: &PartNames,
+    overrides: &Overrides,
     out: &mut O,
 ) -> Outcome
     requires some { files.now ≢ [] }
@@ -59,9 +60,9 @@ pub fn compose<I: Inputs, O: Sink>(
         (counts (I.ends inputs.new) (I.faults inputs.new) (O.faults out.new)) result }
     ensures changed { FoundChanged (map string_bytes files.now) (I.last_end inputs.new) result }
     ensures ends { IfAllTold (I.told inputs.old) (map string_bytes files.now)
-        (λ told. Wrote (O.taken out.old) (O.taken out.new) (ComposeEnds [] names.now told result)) }
+        (λ told. Wrote (O.taken out.old) (O.taken out.new) (ComposeEnds [] overrides.now told result)) }
 {
-    let found = match survey(alloc, inputs, files, names) {
+    let found = match survey(alloc, inputs, files, overrides) {
         Ok(found) => found,
         Err(outcome) => return outcome,
     };
@@ -71,16 +72,17 @@ pub fn compose<I: Inputs, O: Sink>(
         alloc,
         files,
         survey: &found,
-        names,
+        overrides,
         known: &NoBase,
     };
     compose_over(&task, core, &mut nothing, inputs, out)
 }
 
-/// The same over a base, after the survey of the files. `core` has the base's subvolumes, each cell traced to its own place
-/// there; `known` of the task has their files' ends and paths, and `bytes` their bytes. The base has no part of the files. What is written,
-/// and which outcome comes, is said where `bytes` tells. Where it does not, each failure has its cause all the same, and `Done` comes
-/// only where the survey has a last head.
+/// The same over a base, after the survey of the files. `core` has the base's subvolumes, each cell
+/// traced to its own place there; `known` of the task has their files' ends and paths, and `bytes`
+/// their bytes. The base has no part of the files. What is written, and which outcome comes, is
+/// said where `bytes` tells. Where it does not, each failure has its cause all the same, and `Done`
+/// comes only where the survey has a last head.
 pub fn compose_over<I: Inputs, E: Known, B: OutsideBytes, O: Sink>(
     task: &Task<'_, E>,
     core: EditCore<Trace>,
@@ -90,7 +92,7 @@ pub fn compose_over<I: Inputs, E: Known, B: OutsideBytes, O: Sink>(
 ) -> Outcome
     requires some { task.now.files.now ≢ [] }
     requires surveyed { IfAllTold (I.told inputs.old) (map string_bytes task.now.files.now)
-        (SurveyEnd task.now.names.now (Ok task.now.survey.now)) }
+        (SurveyEnd task.now.overrides.now (Ok task.now.survey.now)) }
     requires traced { B.tells → IfAllTold (I.told inputs.old) (map string_bytes task.now.files.now)
         (λ told. recelled_store
         (seen (byte_of_trace told (E.base task.now.known.now)) place_of) core
@@ -116,7 +118,7 @@ pub fn compose_over<I: Inputs, E: Known, B: OutsideBytes, O: Sink>(
         result }
     ensures ends { B.tells → IfAllTold (I.told inputs.old) (map string_bytes task.now.files.now)
         (λ told. Wrote (O.taken out.old) (O.taken out.new)
-        (ComposeEnds (E.base task.now.known.now) task.now.names.now told result)) }
+        (ComposeEnds (E.base task.now.known.now) task.now.overrides.now told result)) }
     ensures begun { result ≡ ended.Done → is_some task.now.survey.now.last ≡ true }
 {
     let mut composer = Composer::new(task.alloc, core);
@@ -126,8 +128,8 @@ pub fn compose_over<I: Inputs, E: Known, B: OutsideBytes, O: Sink>(
     }
 }
 
-// Composes all files, and writes END, which goes out only where the head that came last is that of the survey: files that are read again
-// may have changed since.
+// Composes all files, and writes END, which goes out only where the head that came last is that of
+// the survey: files that are read again may have changed since.
 fn write_files<I: Inputs, E: Known, B: OutsideBytes, O: Sink>(
     task: &Task<'_, E>,
     bytes: &mut B,
@@ -137,7 +139,7 @@ fn write_files<I: Inputs, E: Known, B: OutsideBytes, O: Sink>(
 ) -> Result<(), Outcome>
     requires some { task.now.files.now ≢ [] }
     requires surveyed { IfAllTold (I.told inputs.old) (map string_bytes task.now.files.now)
-        (SurveyEnd task.now.names.now (Ok task.now.survey.now)) }
+        (SurveyEnd task.now.overrides.now (Ok task.now.survey.now)) }
     requires start { B.tells → IfAllTold (I.told inputs.old) (map string_bytes task.now.files.now)
         (λ told. composing_of told (E.base task.now.known.now) composer.old
         ≡ at_start (plan_with (E.base task.now.known.now) task.now.survey.now)) }
@@ -166,7 +168,7 @@ fn write_files<I: Inputs, E: Known, B: OutsideBytes, O: Sink>(
         result }
     ensures ends { B.tells → IfAllTold (I.told inputs.old) (map string_bytes task.now.files.now)
         (λ told. Wrote (O.taken out.old) (O.taken out.new)
-        (ComposeEnds (E.base task.now.known.now) task.now.names.now told (outcome_in result))) }
+        (ComposeEnds (E.base task.now.known.now) task.now.overrides.now told (outcome_in result))) }
     ensures last { OnOk result (is_at_last composer.new.latest task.now.survey.now.last ≡ true) }
 {
     let mut place = Place::start();
@@ -234,7 +236,7 @@ fn write_file<I: Inputs, E: Known, B: OutsideBytes, O: Sink>(
         result }
     ensures wrote { B.tells → IfAllTold (I.told inputs.old) (map string_bytes task.now.files.now)
         (λ told. FileEnd (over told (plan_with (E.base task.now.known.now) task.now.survey.now))
-        (one_file (turn.number + 1) (name_for task.now.names.now (turn.number + 1))
+        (one_file (turn.number + 1) (override_for task.now.overrides.now (turn.number + 1))
         (get_or told turn.number []))
         turn.before (reached composer.old (O.taken out.old))
         (reached composer.new (O.taken out.new)) result) }
@@ -243,7 +245,7 @@ fn write_file<I: Inputs, E: Known, B: OutsideBytes, O: Sink>(
     let Ok(mut reader) = CmdReader::new(task.alloc, file, task.files[turn.number].as_str()) else {
         return Err(Outcome::NoMemory);
     };
-    let name = task.names.of_file(file);
+    let said = task.overrides.of_file(file);
     let mut place = turn.before;
     loop {
         let frame = match reader.advance(inputs) {
@@ -264,11 +266,11 @@ fn write_file<I: Inputs, E: Known, B: OutsideBytes, O: Sink>(
             let refused = place.refused(Refusal::NotConsecutive);
             return Err(composer.stopped(Outcome::Refused(refused), out));
         }
-        let renamed = rename(name, &item);
-        let named = given_or(&item, &renamed);
+        let changed = override_item(said, &item);
+        let meant = given_or(&item, &changed);
         let came = reader.last_frame();
         let read = ReadItem {
-            item: named,
+            item: meant,
             frame: came,
             file,
         };

@@ -1,2 +1,10 @@
 mod TableRule
 mod BlockLemmas
+mod WordSums
+mod TapRule
+mod TakingIn
+mod OwedWords
+mod MovedWords
+mod FoldEnds
+mod Pieces
+mod FoldSteps

@@ -1,22 +1,39 @@
-//! The checksum of a frame, CRC-32C with no inversion, sixteen bytes at a time and four of what is left.
+//! The checksum of a frame, CRC-32C with no inversion: by tables, sixteen bytes at a time and four
+//! of what is left. Many bytes are folded first, until few are left.
 #![tactic(auto)]
 
+mod folding;
 mod tables;
 
 ghost use Rattle.std.specs.Prelude.{◌≡◌, suc, ◌*◌, ◌<◌, drop, bit_xor};
 ghost use Rattle.send_model.specs.Checksum.{shifts, crc_byte, crc_of};
 
+use crate::folding::by_folding;
 use crate::tables::TABLES;
 
-/// The checksum `crc` of some bytes, gone on with over `bytes`. A checksum starts from 0, and neither end inverts.
-/// Source: btrfs_crc32c in send-stream.c of btrfs-progs.
+/// From this length on, in bytes, folding takes less time than the tables alone.
+const FOLDED_FROM: usize = 4096;
+
+/// The checksum `crc` of some bytes, gone on with over `bytes`. A checksum starts from 0, and
+/// neither end inverts. Source: btrfs_crc32c in send-stream.c of btrfs-progs.
 pub fn update(crc: u32, bytes: &[u8]) -> u32
+    ensures { result ≡ crc_of crc bytes.now }
+{
+    if bytes.len() < FOLDED_FROM {
+        return by_tables(crc, bytes);
+    }
+    by_folding(crc, bytes)
+}
+
+// The same by tables alone.
+fn by_tables(crc: u32, bytes: &[u8]) -> u32
     ensures { result ≡ crc_of crc bytes.now }
 {
     let mut sum = crc;
     let (blocks, rest) = bytes.as_chunks::<16>();
     for block in blocks {
-        // What does not wait for the sum so far stands first: in the other order this is a third slower.
+        // What does not wait for the sum so far stands first: in the other order this is a third
+        // slower.
         sum = last_twelve(block) ^ first_four(sum, block);
     }
     let (fours, rest) = rest.as_chunks::<4>();

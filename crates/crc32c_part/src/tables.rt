@@ -1,8 +1,9 @@
 //! The tables by which sixteen bytes are summed at once.
 
-// TABLES[k][n] is the number n after 8 * (k + 1) single-bit steps of the checksum, for n below 256: the
-// part that a byte has in the checksum when k more bytes follow it. The first table is therefore that of
-// the usual loop over single bytes, and each further one is the table before it, stepped eight times more.
+// TABLES[k][n] is the number n after 8 * (k + 1) single-bit steps of the checksum, for n below 256:
+// the part that a byte has in the checksum when k more bytes follow it. The first table is
+// therefore that of the usual loop over single bytes, and each further one is the table before it,
+// stepped eight times more.
 pub static TABLES: [[u32; 256]; 16] = [
     [
         0x00000000, 0xf26b8303, 0xe13b70f7, 0x1350f3f4, 0xc79a971f, 0x35f1141c, 0x26a1e7e8,

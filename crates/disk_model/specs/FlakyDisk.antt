@@ -2,8 +2,8 @@
 use Rattle.std.specs.Prelude.{◌≡◌, ℕ, Bool, ◌+◌, ◌-◌, ◌^◌, ◌==◌, min, List}
 use Rattle.std.specs.List.{list_any}
 
--- The disk inside, the numbers of the calls that are to fail, counted from 1, how many calls there were, and how many of
--- these failed because they were to.
+-- The disk inside, the numbers of the calls that are to fail, counted from 1, how many calls there
+-- were, and how many of these failed because they were to.
 pub record Flaky (D : Type 0) : Type 0 where
   pub disk : D
   pub failing : List ℕ

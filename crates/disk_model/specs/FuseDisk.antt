@@ -1,8 +1,8 @@
 -- What a disk that stops is seen as.
 use Rattle.std.specs.Prelude.{ℕ, ◌+◌, List}
 
--- The disk inside, how many calls it is still to get, and how many calls failed because it was to get
--- no more.
+-- The disk inside, how many calls it is still to get, and how many calls failed because it was to
+-- get no more.
 pub record Fused (D : Type 0) : Type 0 where
   pub disk : D
   pub left : ℕ

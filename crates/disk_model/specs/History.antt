@@ -1,5 +1,6 @@
--- The past of a disk in memory: the times between its successful syncs. Within such a time each call leaves as many
--- images possible as there were, or more, so of each time its end is all that has to be kept.
+-- The past of a disk in memory: the times between its successful syncs. Within such a time each
+-- call leaves as many images possible as there were, or more, so of each time its end is all that
+-- has to be kept.
 use Rattle.std.specs.Prelude.{◌⊎◌, ℕ, suc, ◌+◌, ◌-◌, ◌*◌, ◌^◌, ◌≤◌, min, max, Bool, true, false, List, [], ◌∷◌, length, refl}
 use Rattle.std.proofs.Common.{inl, inr, arith}
 use Rattle.sx_base.specs.Disk.{Pending, IsImage, Agrees}
@@ -10,11 +11,13 @@ pub record Ended : Type 0 where
   pub pending : Pending
   pub calls : ℕ
 
--- The clock after so many successful syncs and so many calls since the last: a count of calls stops at the greatest u64.
+-- The clock after so many successful syncs and so many calls since the last: a count of calls stops
+-- at the greatest u64.
 abbrev pub time : ℕ → ℕ → ℕ
 time syncs calls = 2 ^ 64 * syncs + min calls (2 ^ 64 - 1)
 
--- What a crash at some moment since t may have left, during the times that ended; the first is after so many syncs.
+-- What a crash at some moment since t may have left, during the times that ended; the first is
+-- after so many syncs.
 abbrev pub Left : ℕ → List Ended → ℕ → List ℕ → Type 0
 Left syncs [] t image = ⊥
 Left syncs (end ∷ ended) t image = ((t ≤ time syncs end.calls) × IsImage end.pending image) ⊎ Left (suc syncs) ended t image

@@ -12,7 +12,8 @@ with_zeros (Some byte ∷ known) = byte ∷ with_zeros known
 abbrev pub stable_of : Pending → List ℕ
 stable_of pending = with_zeros pending.known ++ replicate (pending.greatest - length pending.known) 0
 
--- What a crash leaves of a byte: a byte that is known, and for choice 1 a zero in place of any other.
+-- What a crash leaves of a byte: a byte that is known, and for choice 1 a zero in place of any
+-- other.
 abbrev pub IsLeft : Bool → ℕ → ℕ → ℕ → Type 0
 IsLeft true choice byte left = choice ≡ 1 → left ≡ 0
 IsLeft false choice byte left = left ≡ byte

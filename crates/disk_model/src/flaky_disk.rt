@@ -9,9 +9,9 @@ use crate::fuse_disk::FuseDisk;
 use std::marker::Model;
 use sx_base::{Disk, Failed};
 
-/// A disk that fails the calls of the numbers that it was given, and passes all others to the disk inside, as a medium
-/// with bad places. A write or a cut that fails so counts as done: it reaches the disk inside, and stays unstable there
-/// until a sync that passes.
+/// A disk that fails the calls of the numbers that it was given, and passes all others to the disk
+/// inside, as a medium with bad places. A write or a cut that fails so counts as done: it reaches
+/// the disk inside, and stays unstable there until a sync that passes.
 #[derive(Debug, Drop)]
 pub struct FlakyDisk<D> {
     fuse: FuseDisk<D>,
@@ -58,7 +58,8 @@ impl<D> FlakyDisk<D> {
     }
 }
 
-// Counts one call more, and says how many calls are left to pass before one fails: none where it is listed.
+// Counts one call more, and says how many calls are left to pass before one fails: none where it is
+// listed.
 fn left(failing: &[u64], calls: &mut u64) -> u64
     ensures counted { calls.new ≡ min (calls.old + 1) (2 ^ 64 - 1) }
     ensures left { result ≡ (if is_listed failing.now calls.new then 0 else 1) }

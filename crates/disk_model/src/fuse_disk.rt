@@ -8,9 +8,9 @@ ghost use Rattle.disk_model.specs.FuseDisk.{of_inner, left_inside, faults_of};
 use std::marker::Model;
 use sx_base::{Disk, Failed};
 
-/// A disk that passes a number of calls to the disk inside, and then fails every one, as when the power fails. A
-/// write or a cut that fails so counts as done: it reaches the disk inside, and stays unstable there. No later
-/// sync and no later read does.
+/// A disk that passes a number of calls to the disk inside, and then fails every one, as when the
+/// power fails. A write or a cut that fails so counts as done: it reaches the disk inside, and
+/// stays unstable there. No later sync and no later read does.
 #[derive(Debug, Drop)]
 pub struct FuseDisk<D> {
     disk: D,

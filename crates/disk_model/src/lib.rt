@@ -1,4 +1,5 @@
-//! Disks in memory: one that a crash may tear, one that stops after a number of calls, and one that fails some calls.
+//! Disks in memory: one that a crash may tear, one that stops after a number of calls, and one that
+//! fails some calls.
 #![tactic(auto)]
 
 mod flaky_disk;

@@ -14,8 +14,9 @@ use std::alloc::{AllocError, Global};
 use std::mem;
 use sx_base::{Disk, Failed};
 
-/// A disk in memory. It keeps what each successful sync made stable, so that `crash` can give an image that a loss
-/// of power may leave. A call fails for want of memory alone, for the bytes or for what is kept.
+/// A disk in memory. It keeps what each successful sync made stable, so that `crash` can give an
+/// image that a loss of power may leave. A call fails for want of memory alone, for the bytes or
+/// for what is kept.
 #[derive(Debug, Drop)]
 pub struct MemDisk {
     alloc: Global,
@@ -44,9 +45,9 @@ impl MemDisk {
         })
     }
 
-    /// A disk with one of the images that a crash now may leave, all of it stable: what a read gives for choice 0,
-    /// what is stable, with the greatest size and zeros where nothing is known, for choice 1, and for another
-    /// choice a mixture drawn from the number.
+    /// A disk with one of the images that a crash now may leave, all of it stable: what a read
+    /// gives for choice 0, what is stable, with the greatest size and zeros where nothing is known,
+    /// for choice 1, and for another choice a mixture drawn from the number.
     pub fn crash(&self, alloc: Global, choice: u64) -> Result<MemDisk, AllocError>
         ensures image { IfOk result (λ disk. IsImage (pending_of self.now) (seen_of disk)) }
         ensures seen { choice ≡ 0 → IfOk result (λ disk. seen_of disk ≡ seen_of self.now) }
@@ -70,7 +71,8 @@ impl MemDisk {
     }
 }
 
-// Ends the time since the last sync: all bytes are stable. Where memory is wanting, nothing changes.
+// Ends the time since the last sync: all bytes are stable. Where memory is wanting, nothing
+// changes.
 fn settle(alloc: Global, now: &mut Stretch, past: &mut Vec<Stretch>) -> Result<(), AllocError>
     ensures bytes { now.new.bytes.items ≡ now.old.bytes.items }
     ensures pending { OnOk result (pending_in now.new ≡ settled now.old.bytes.items) }

@@ -40,7 +40,8 @@ impl Stretch {
         })
     }
 
-    /// Puts the piece at `at`. Where memory is wanting for the bytes, they stay; the write counts all the same.
+    /// Puts the piece at `at`. Where memory is wanting for the bytes, they stay; the write counts
+    /// all the same.
     pub(crate) fn write(&mut self, at: usize, piece: &[u8]) -> Result<(), AllocError>
         requires place { at ≤ length self.old.bytes.items }
         requires room { at + length piece.now < 2 ^ 63 }

@@ -7,7 +7,8 @@ ghost use Rattle.disk_model.specs.Torn.{stable_of, IsLeft};
 use crate::stretch::Stretch;
 use std::alloc::{AllocError, Global};
 
-/// An image that a crash now may leave: with choice 1 what is stable, and otherwise one drawn from the number.
+/// An image that a crash now may leave: with choice 1 what is stable, and otherwise one drawn from
+/// the number.
 pub(crate) fn torn(alloc: Global, stretch: &Stretch, choice: u64) -> Result<Vec<u8>, AllocError>
     ensures image { IfOk result (λ image. IsImage (pending_in stretch.now) image.items) }
     ensures stable { choice ≡ 1 →
@@ -47,8 +48,8 @@ fn left_byte(is_touched: bool, choice: u64, place: u64, byte: u8) -> u8
     }
 }
 
-// A byte of which nothing is known: for choice 1 zero, and otherwise the byte that was written, a zero, a one or
-// any other.
+// A byte of which nothing is known: for choice 1 zero, and otherwise the byte that was written, a
+// zero, a one or any other.
 fn drawn_byte(choice: u64, place: u64, byte: u8) -> u8
     ensures { choice ≡ 1 → result ≡ 0 }
 {

@@ -4,9 +4,9 @@ use Rattle.std.specs.Option.{option_map}
 use Rattle.std.proofs.Common.{refl, sym, ap, subst, ◌∙◌, arith, append_assoc, append-nil, drop-drop}
 use Rattle.std.proofs.lemmas.List.{length-append, length-drop, take_all, drop_all}
 use Rattle.send_model.specs.Printed.{is_plain}
-use Rattle.word_model.specs.EscapedWords.{escape_of, onto, plain_byte, unescaped, is_escaped_word, meant_by}
+use Rattle.program_model.specs.EscapedWords.{escape_of, onto, plain_byte, unescaped, is_escaped_word, meant_by}
 use Rattle.escaped_words.specs.Fronts.{StandsFirst}
-use Rattle.word_model.proofs.EscapedForms.{plain_first, escape_first}
+use Rattle.program_model.proofs.EscapedForms.{plain_first, escape_first}
 
 -- ---- the byte that stands first
 

@@ -3,13 +3,14 @@ ghost use Rattle.std.specs.Prelude.{◌≡◌, ◌≢◌, ◌<◌, ◌≤◌, []
 ghost use Rattle.std.specs.Option.{option_map};
 ghost use Rattle.send_model.specs.Attribute.{IsBytes};
 ghost use Rattle.send_model.specs.Printed.{is_plain};
-ghost use Rattle.word_model.specs.EscapedWords.{hex_value, escape_of, unescaped, is_escaped_word, meant_by};
+ghost use Rattle.program_model.specs.EscapedWords.{hex_value, escape_of, unescaped, is_escaped_word, meant_by};
 ghost use Rattle.escaped_words.specs.Fronts.{StandsFirst};
 
 use std::alloc::{AllocError, Global};
 use sx_base::Blob;
 
-/// The bytes that a word means where a name or a path stands; `None` where it begins `escaped:` and no escaped form follows.
+/// The bytes that a word means where a name or a path stands; `None` where it begins `escaped:` and
+/// no escaped form follows.
 ///
 /// # Errors
 /// There is no memory.
@@ -107,7 +108,7 @@ fn escape_of(first: u8, second: u8, third: u8, fourth: u8) -> Option<u8>
     Some(byte)
 }
 
-#[tactic(auto, unfolding(word_model::specs::EscapedWords::hex_value))]
+#[tactic(auto, unfolding(program_model::specs::EscapedWords::hex_value))]
 fn hex_value(glyph: u8) -> Option<u8>
     ensures value { result ≡ hex_value glyph }
     ensures digit { IfSome result (λ value. value < 16) }

@@ -30,7 +30,8 @@ impl Draw {
     }
 }
 
-/// Writes `count` blocks of 4 KiB in scattered order, with a hole of 4 KiB after each: as many runs.
+/// Writes `count` blocks of 4 KiB in scattered order, with a hole of 4 KiB after each: as many
+/// runs.
 pub fn fill(file: &mut Extents<Byte>, count: u32) -> Result<(), AllocError> {
     for n in 0..count {
         let place = (n as u64 * 2_654_435_761) % count as u64;
@@ -45,7 +46,8 @@ pub fn fill(file: &mut Extents<Byte>, count: u32) -> Result<(), AllocError> {
     Ok(())
 }
 
-/// Writes 4 KiB at `count` places anywhere in the first 8 KiB times `count`, over the runs that lie there.
+/// Writes 4 KiB at `count` places anywhere in the first 8 KiB times `count`, over the runs that lie
+/// there.
 pub fn overwrite(file: &mut Extents<Byte>, draw: &mut Draw, count: u32) -> Result<(), AllocError> {
     for n in 0..count {
         let at = draw.below(count as u64 * 2 * BLOCK);
@@ -77,7 +79,8 @@ pub fn clone_parts(
     Ok(())
 }
 
-/// Copies the file `count` times, each time from the last copy, writes 4 KiB at `edits` places of each copy, and keeps all.
+/// Copies the file `count` times, each time from the last copy, writes 4 KiB at `edits` places of
+/// each copy, and keeps all.
 pub fn change_copies(
     alloc: Global,
     file: &Extents<Byte>,

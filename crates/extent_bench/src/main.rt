@@ -1,5 +1,6 @@
-//! Measures `Extents`: as many calls of each kind as the first word says, on a file of at least so many runs. What is
-//! printed is the same on each machine; with a second word `time`, nanoseconds for a call go to standard error.
+//! Measures `Extents`: as many calls of each kind as the first word says, on a file of at least so
+//! many runs. What is printed is the same on each machine; with a second word `time`, nanoseconds
+//! for a call go to standard error.
 #![tactic(auto)]
 
 mod block;

@@ -1,4 +1,5 @@
--- The cells of a list that was resized or written over, one by one. Past the end of a list its cells read as empty.
+-- The cells of a list that was resized or written over, one by one. Past the end of a list its
+-- cells read as empty.
 use Rattle.std.proofs.Common.{◌≡◌, ℕ, ◌+◌, ◌-◌, ◌<◌, ◌≤◌, ◌⊎◌, inl, inr, List, [], ◌∷◌, ◌++◌, length, take, drop, get_or, refl, sym, ◌∙◌, ap, arith, add-zero, zero-add, length-append, length-drop}
 use lib.ListN.{replicate}
 use Rattle.std.proofs.Math.Logic.{⊎_elim}

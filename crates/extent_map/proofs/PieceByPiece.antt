@@ -1,4 +1,5 @@
--- Cells that are gone through piece by piece, of any origin, and a buffer that is filled with what they stand for.
+-- Cells that are gone through piece by piece, of any origin, and a buffer that is filled with what
+-- they stand for.
 use Rattle.std.specs.Prelude.{◌≡◌, ℕ, zero, suc, ◌+◌, ◌-◌, ◌<◌, ◌≤◌, List, [], ◌∷◌, ◌++◌, map, length, take, drop, Option, Some, None}
 use Rattle.std.specs.List.{range_with_len}
 use Rattle.std.proofs.Common.{refl, sym, ap, ap₂, subst, ◌∙◌, arith, length-append}

@@ -1,6 +1,6 @@
--- The contents of a file as a list of cells, and what writing, truncating and copying make of it. A cell is of any
--- type, and `empty` is the cell of a hole. Source: the btrfs-receive manual's WRITE, TRUNCATE and CLONE, as this
--- program reads them.
+-- The contents of a file as a list of cells, and what writing, truncating and copying make of it. A
+-- cell is of any type, and `empty` is the cell of a hole. Source: the btrfs-receive manual's WRITE,
+-- TRUNCATE and CLONE, as this program reads them.
 use Rattle.std.specs.Prelude.{◌≡◌, ℕ, ◌+◌, ◌-◌, ◌<◌, ◌≤◌, Bool, true, false, List, [], ◌∷◌, ◌++◌, length, take, drop, get_or}
 use lib.ListN.{replicate}
 
@@ -8,8 +8,8 @@ use lib.ListN.{replicate}
 unfoldable pub resize_cells : {C : Type 0} → C → ℕ → List C → List C
 resize_cells empty size cells = take size cells ++ replicate (size - length cells) empty
 
--- The cells with `new` in place of those from `at` on, as many as `new` has, and with a gap before `at` filled by
--- empty cells. No new cells change nothing.
+-- The cells with `new` in place of those from `at` on, as many as `new` has, and with a gap before
+-- `at` filled by empty cells. No new cells change nothing.
 unfoldable pub put_cells : {C : Type 0} → C → ℕ → List C → List C → List C
 put_cells empty at [] cells = cells
 put_cells empty at (c ∷ cs) cells = resize_cells empty at cells ++ (c ∷ cs) ++ drop (at + length (c ∷ cs)) cells

@@ -38,8 +38,8 @@ pub record PiecesAt (O : Type 0) : Type 0 where
 abbrev pub pieces_at : {O : Type 0} → List (Piece O) → ℕ → PiecesAt O
 pieces_at pieces at = record { pieces = pieces; at = at }
 
--- A piece was put in at the place of the old pieces, or joined to the one before it: before the place of the new ones stand those that
--- stood before it, and the piece itself.
+-- A piece was put in at the place of the old pieces, or joined to the one before it: before the
+-- place of the new ones stand those that stood before it, and the piece itself.
 pub record IsAdded {O : Type 0} (advanced : O → ℕ → O) (reach : O → ℕ) (old : PiecesAt O) (piece : Piece O) (new : PiecesAt O) : Type 0 where
   pub front : all_cells advanced (take new.at new.pieces) ≡ all_cells advanced (take old.at old.pieces) ++ cells_in advanced piece
   pub back : drop new.at new.pieces ≡ drop old.at old.pieces

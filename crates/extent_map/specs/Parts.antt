@@ -2,8 +2,8 @@
 use Rattle.std.specs.Prelude.{◌≡◌, ℕ, ◌+◌, ◌<◌, ◌≤◌, List, ◌∷◌, ◌++◌, length}
 use Rattle.std.specs.List.{sum_by}
 
--- The part that has a cell, with the parts before and after it: `index` parts stand before it, and the first cell of
--- it is that with the number `start`.
+-- The part that has a cell, with the parts before and after it: `index` parts stand before it, and
+-- the first cell of it is that with the number `start`.
 pub record IsFound {A : Type 0} (span : A → ℕ) (parts : List A) (at index start : ℕ) : Type 0 where
   pub before : List A
   pub part : A

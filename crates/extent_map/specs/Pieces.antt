@@ -1,5 +1,5 @@
--- The cells of runs and of holes, and what the pieces of a range are. Source: this project; a piece is what a reader of a
--- file's extents takes at a time.
+-- The cells of runs and of holes, and what the pieces of a range are. Source: this project; a piece
+-- is what a reader of a file's extents takes at a time.
 use Rattle.std.specs.Prelude.{◌≡◌, ℕ, ◌+◌, ◌<◌, ◌≤◌, Bool, false, Option, Some, None, MatchOption, IfSome, List, [], ◌++◌, map, length, ◌^◌}
 use Rattle.std.specs.List.{range_with_len, list_any}
 use lib.ListN.{replicate}
@@ -26,12 +26,13 @@ foreign_cell foreign (Some origin) = foreign origin
 abbrev pub have_foreign : {O : Type 0} → (O → Bool) → List (Option O) → Bool
 have_foreign foreign cells = list_any (foreign_cell foreign) cells
 
--- A call of `next` where the cells `left` are left: it gives the piece that they begin with, of a cell at least, and
--- leaves the others, or there are none.
+-- A call of `next` where the cells `left` are left: it gives the piece that they begin with, of a
+-- cell at least, and leaves the others, or there are none.
 abbrev pub TakesPiece : {O : Type 0} → (O → ℕ → O) → (O → ℕ) → List (Option O) → Option (Option O × ℕ) → List (Option O) → Type 0
 TakesPiece advanced reach left given rest = MatchOption given ((left ≡ []) × (rest ≡ [])) (λ piece. (0 < piece.1) × IfSome piece.0 (λ origin. piece.1 ≤ reach origin) × (left ≡ piece_cells advanced piece.0 piece.1 ++ rest))
 
--- A run of `len` cells goes on in one of `more` cells from `next`: both are one run, which its origin reaches.
+-- A run of `len` cells goes on in one of `more` cells from `next`: both are one run, which its
+-- origin reaches.
 pub record RunsOn {O : Type 0} (advanced : O → ℕ → O) (reach : O → ℕ) (origin : O) (len : ℕ) (next : O) (more : ℕ) : Type 0 where
   pub follows : next ≡ advanced origin len
   pub reaches : len + more ≤ reach origin

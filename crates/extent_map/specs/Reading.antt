@@ -9,13 +9,15 @@ abbrev pub FirstHas : {O : Type 0} → ℕ → List (Piece O) → Type 0
 FirstHas skip [] = Unit {0}
 FirstHas skip (p ∷ ps) = skip < p.len
 
--- Pieces that have the cells from `at` on, as far as they go, but for the first `skip` cells of the first piece.
+-- Pieces that have the cells from `at` on, as far as they go, but for the first `skip` cells of the
+-- first piece.
 pub record AreAhead {O : Type 0} (advanced : O → ℕ → O) (reach : O → ℕ) (cells : List (Option O)) (at : ℕ) (pieces : List (Piece O)) (skip : ℕ) : Type 0 where
   pub each : ArePieces reach pieces
   pub first : FirstHas skip pieces
   pub are : drop skip (all_cells advanced pieces) ≡ take (length (all_cells advanced pieces) - skip) (drop at cells)
 
--- A piece that has the cells from `at` on, as far as it goes, and the pieces that come behind it, if any.
+-- A piece that has the cells from `at` on, as far as it goes, and the pieces that come behind it,
+-- if any.
 pub record IsNext {O : Type 0} (advanced : O → ℕ → O) (reach : O → ℕ) (cells : List (Option O)) (at : ℕ) (piece : Piece O) (pieces : List (Piece O)) : Type 0 where
   pub good : IsPiece reach piece
   pub are : cells_in advanced piece ≡ take piece.len (drop at cells)

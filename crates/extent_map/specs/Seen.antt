@@ -30,7 +30,8 @@ pub record IsTwo {O : Type 0} (cells : List (Option O)) (steps : ℕ) (first sec
   pub height : first.height ≡ steps
   pub same : 0 < second.height → second.height ≡ steps
 
--- Trees that can stand below one of a height, and trees that can be one of that height: two at least, whose cells are counted.
+-- Trees that can stand below one of a height, and trees that can be one of that height: two at
+-- least, whose cells are counted.
 pub record AreBelow {O : Type 0} (high : ℕ) (kids : List (Seen O)) : Type 0 where
   pub steps : ℕ
   pub height : high ≡ steps + 1

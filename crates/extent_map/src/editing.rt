@@ -54,7 +54,8 @@ impl<O: Origin> Tree<O> {
         over_two(alloc, kids, last, two, len)
     }
 
-    /// The cells with those of a piece in place of those from `at` on. Fails for want of memory alone.
+    /// The cells with those of a piece in place of those from `at` on. Fails for want of memory
+    /// alone.
     pub(crate) fn put(self, alloc: Global, at: u64, piece: Piece<O>) -> Result<Two<O>, AllocError>
         requires piece { IsPiece O.reach piece }
         requires within { at + piece.len ≤ length self.cells }
@@ -84,8 +85,8 @@ impl<O: Origin> Tree<O> {
         around_it(alloc, kids, index, lower)
     }
 
-    /// The cells with those of a piece in place of those from `at` on, whatever parts of the tree these stand in.
-    /// Fails for want of memory alone.
+    /// The cells with those of a piece in place of those from `at` on, whatever parts of the tree
+    /// these stand in. Fails for want of memory alone.
     fn across(self, alloc: Global, at: u64, piece: Piece<O>) -> Result<Two<O>, AllocError>
         requires piece { IsPiece O.reach piece }
         requires within { at + piece.len ≤ length self.cells }
@@ -133,7 +134,8 @@ impl<O: Origin> Tree<O> {
         Ok((append(alloc, left, low)?, append(alloc, high, right)?))
     }
 
-    /// The cells cut to `size`, or with zero cells behind them up to it. Fails for want of memory alone.
+    /// The cells cut to `size`, or with zero cells behind them up to it. Fails for want of memory
+    /// alone.
     pub(crate) fn resized(self, alloc: Global, size: u64) -> Result<Tree<O>, AllocError>
         requires size { size < 2 ^ 63 }
         requires fits { length self.cells < 2 ^ 63 }
@@ -152,7 +154,8 @@ impl<O: Origin> Tree<O> {
         root(alloc, two)
     }
 
-    /// The cells with those of a piece in place of those from `at` on. Fails for want of memory alone.
+    /// The cells with those of a piece in place of those from `at` on. Fails for want of memory
+    /// alone.
     pub(crate) fn with(self, alloc: Global, at: u64, piece: Piece<O>) -> Result<Tree<O>, AllocError>
         requires piece { IsPiece O.reach piece }
         requires end { at + piece.len < 2 ^ 63 }
@@ -169,7 +172,8 @@ impl<O: Origin> Tree<O> {
         root(alloc, two)
     }
 
-    /// The cells with those of another tree in place of those from `at` on. Fails for want of memory alone.
+    /// The cells with those of another tree in place of those from `at` on. Fails for want of
+    /// memory alone.
     pub(crate) fn with_tree(
         self,
         alloc: Global,

@@ -18,8 +18,9 @@ use std::mem;
 const FEW: usize = 8;
 
 /// The contents of a file, seen as a list of cells. A cell is an origin, or None where it is zero.
-/// A hole takes as much memory as any other run of cells, and one run takes none of the heap. Copies share their runs, and
-/// each call takes a time that grows with the logarithm of their number.
+/// A hole takes as much memory as any other run of cells, and one run takes none of the heap.
+/// Copies share their runs, and each call takes a time that grows with the logarithm of their
+/// number.
 #[derive(Debug, Drop)]
 pub struct Extents<O: Origin> {
     root: Root<O>,
@@ -147,7 +148,8 @@ impl<O: Origin> Extents<O> {
         })
     }
 
-    /// Puts a run of `len` cells from `origin` in place of the cells from `at` on. Fails for want of memory alone.
+    /// Puts a run of `len` cells from `origin` in place of the cells from `at` on. Fails for want
+    /// of memory alone.
     #[tactic(auto, unfolding(crate::specs::Pieces::piece_cells))]
     pub fn put_run(&mut self, at: u64, origin: O, len: u64) -> Result<(), AllocError>
         requires end { at + len < 2 ^ 63 }
@@ -173,7 +175,8 @@ impl<O: Origin> Extents<O> {
         self.put_piece(at, Piece { origin: None, len })
     }
 
-    /// Makes the contents `size` cells long: cuts them, or fills them with zero cells. Fails for want of memory alone.
+    /// Makes the contents `size` cells long: cuts them, or fills them with zero cells. Fails for
+    /// want of memory alone.
     pub fn cut_to(&mut self, size: u64) -> Result<(), AllocError>
         requires { size < 2 ^ 63 }
         ensures { OnOk result (self.new ≡ resize_cells None size self.old) }
@@ -226,8 +229,8 @@ impl<O: Origin> Extents<O> {
         Pieces::new(&self.root, from, from + len)
     }
 
-    /// The first place from `at` on where a foreign cell stands, or the size where there is none. It takes no memory, and
-    /// passes any number of runs that are not foreign at once.
+    /// The first place from `at` on where a foreign cell stands, or the size where there is none.
+    /// It takes no memory, and passes any number of runs that are not foreign at once.
     pub fn next_foreign(&self, at: u64) -> u64
         requires { at ≤ length self.now }
         ensures { IsFirstFrom (foreign_cell O.foreign) None at self.now result }

@@ -33,8 +33,8 @@ fn first_in_pieces<O: Origin>(pieces: &[Piece<O>], at: u64) -> u64
     start
 }
 
-/// The first place from `at` on where a foreign cell stands in a tree, or the end of its cells. It looks below no tree that
-/// has no foreign cell.
+/// The first place from `at` on where a foreign cell stands in a tree, or the end of its cells. It
+/// looks below no tree that has no foreign cell.
 pub(crate) fn first_in_tree<O: Origin>(tree: &Tree<O>, at: u64) -> u64
     requires within { at ≤ length tree.now.cells }
     requires fits { length tree.now.cells < 2 ^ 63 }

@@ -23,7 +23,8 @@ fn put_at<O: Origin>(trees: &mut Vec<Tree<O>>, at: usize, tree: Tree<O>) -> Resu
     Ok(())
 }
 
-/// One tree or two over trees, with one or two in place of the one at `index`. Fails for want of memory alone.
+/// One tree or two over trees, with one or two in place of the one at `index`. Fails for want of
+/// memory alone.
 pub(crate) fn over_two<O: Origin>(
     alloc: Global,
     kids: Kids<O>,
@@ -116,7 +117,8 @@ fn join_level<O: Origin>(alloc: Global, left: Tree<O>, right: Tree<O>) -> Result
     join_forks(alloc, left, right)
 }
 
-/// One tree or two, as high as the higher one of the two that are joined. Fails for want of memory alone.
+/// One tree or two, as high as the higher one of the two that are joined. Fails for want of memory
+/// alone.
 pub(crate) fn join<O: Origin>(
     alloc: Global,
     left: Tree<O>,

@@ -1,4 +1,5 @@
-//! Contents of files as runs of cells, for every kind of cell: what a tree keeps of a file in place of its bytes.
+//! Contents of files as runs of cells, for every kind of cell: what a tree keeps of a file in place
+//! of its bytes.
 #![tactic(auto)]
 
 mod editing;

@@ -83,7 +83,8 @@ pub(crate) fn leaf<O: Origin>(
     })
 }
 
-/// How many of too many pieces the first of two leaves keeps: as many as it can where they were written to at the end.
+/// How many of too many pieces the first of two leaves keeps: as many as it can where they were
+/// written to at the end.
 fn kept(count: usize, at_end: bool) -> usize
     requires { 30 < count }
     ensures some { 0 < result }
@@ -163,7 +164,8 @@ pub(crate) fn forks<O: Origin>(
     Ok(Two { first, second })
 }
 
-/// One tree of any number of trees that can stand below one of a height. Fails for want of memory alone.
+/// One tree of any number of trees that can stand below one of a height. Fails for want of memory
+/// alone.
 pub(crate) fn any<O: Origin>(
     alloc: Global,
     height: u8,

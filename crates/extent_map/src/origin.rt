@@ -22,8 +22,8 @@ pub trait Origin: Copy {
     fn is_foreign(&self) -> bool
         ensures { result ≡ foreign self.now };
 
-    /// Whether a run of `len` cells goes on in one of `more` cells from `next`, so that both are one run. An origin may
-    /// always say no.
+    /// Whether a run of `len` cells goes on in one of `more` cells from `next`, so that both are
+    /// one run. An origin may always say no.
     fn goes_on(&self, len: u64, next: &Self, more: u64) -> bool
         ensures { IsTrue result → RunsOn advanced reach self.now len next.now more }
     {

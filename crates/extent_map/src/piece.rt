@@ -7,7 +7,8 @@ use crate::origin::Origin;
 use crate::parts::Part;
 use std::alloc::AllocError;
 
-/// So many cells: zero cells, or the first is `origin`, and each further one the origin advanced by one more.
+/// So many cells: zero cells, or the first is `origin`, and each further one the origin advanced by
+/// one more.
 #[derive(Debug, Copy)]
 pub(crate) struct Piece<O> {
     pub(crate) origin: Option<O>,

@@ -13,8 +13,8 @@ use crate::piece::Piece;
 use crate::tree::{Shape, Tree};
 use std::marker::Model;
 
-/// The cells that are left of a range, seen as their list. Each call of `next` gives a piece: an origin and the length
-/// of the run of cells from it, or None and the length of so many zero cells.
+/// The cells that are left of a range, seen as their list. Each call of `next` gives a piece: an
+/// origin and the length of the run of cells from it, or None and the length of so many zero cells.
 #[derive(Debug, Drop)]
 pub struct Pieces<'a, O: Origin> {
     root: &'a Root<O>,
@@ -72,8 +72,8 @@ impl<'a, O: Origin> Iterator for Pieces<'a, O> {
     }
 }
 
-/// The piece that has the cell at a place, from there on, and the pieces of its leaf behind it, where `leaf` are those
-/// from the place on, or none.
+/// The piece that has the cell at a place, from there on, and the pieces of its leaf behind it,
+/// where `leaf` are those from the place on, or none.
 fn piece_from<'a, O: Origin>(
     root: &'a Root<O>,
     leaf: &'a [Piece<O>],

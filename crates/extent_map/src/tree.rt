@@ -12,22 +12,24 @@ use std::alloc::AllocError;
 use std::marker::Model;
 use std::rc::Rc;
 
-// How many pieces a leaf has at most, and how many trees one is over. Two less than what a list of pieces and one less than what a
-// list of trees has room for where it grew by doubling, since so many more may come before a list is split.
+// How many pieces a leaf has at most, and how many trees one is over. Two less than what a list of
+// pieces and one less than what a list of trees has room for where it grew by doubling, since so
+// many more may come before a list is split.
 pub(crate) const PIECES: usize = 30;
 
 pub(crate) const KIDS: usize = 31;
 
-/// Runs of cells in a tree whose leaves are all at one height, seen as the list of the cells and the height. Copies share
-/// their parts.
+/// Runs of cells in a tree whose leaves are all at one height, seen as the list of the cells and
+/// the height. Copies share their parts.
 #[cycle(tree)]
 #[derive(Debug, Drop)]
 pub(crate) struct Tree<O: Origin> {
     pub(crate) shape: Shape<O>,
 }
 
-/// No cells, pieces, or trees of one height: whether one of their cells is foreign, how many cells they
-/// have, and they. The small fields stand together, since what stands in each file's contents is as long as they are laid out.
+/// No cells, pieces, or trees of one height: whether one of their cells is foreign, how many cells
+/// they have, and they. The small fields stand together, since what stands in each file's contents
+/// is as long as they are laid out.
 #[cycle(tree)]
 #[derive(Debug, Drop)]
 pub(crate) enum Shape<O: Origin> {

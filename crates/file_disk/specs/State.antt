@@ -1,10 +1,12 @@
--- What a disk that is a file keeps, and what each call leaves of it. Of the file's bytes nothing is said.
+-- What a disk that is a file keeps, and what each call leaves of it. Of the file's bytes nothing is
+-- said.
 use Rattle.std.specs.Prelude.{◌≡◌, ℕ, ◌+◌, ◌-◌, ◌^◌, ◌<◌, ◌≤◌, ◌==◌, Bool, true, false, ◌&&◌, nat_lt, nat_le, if◌then◌else◌, List, [], ◌++◌, length, min, max}
 use Rattle.sx_base.specs.Causes.{Rose}
 use Rattle.sx_base.specs.Disk.{Pending, Rises, settled}
 
--- The size; the bytes that are gathered, and where the first of them goes; whether there is memory to gather bytes in; whether a write,
--- a cut or a sync failed; whether the file was opened to be written; whether the file's name may be new; the calls that failed; the clock.
+-- The size; the bytes that are gathered, and where the first of them goes; whether there is memory
+-- to gather bytes in; whether a write, a cut or a sync failed; whether the file was opened to be
+-- written; whether the file's name may be new; the calls that failed; the clock.
 pub record FileState : Type 0 where
   pub size : ℕ
   pub from : ℕ
@@ -49,7 +51,8 @@ pub record IsCounted (old new : FileState) : Type 0 where
   pub later : old.faults ≤ new.faults
   pub rose : Rose old.faults new.faults
 
--- What a contract sees of it as a disk: the size, the clock and the calls that failed, and nothing of bytes.
+-- What a contract sees of it as a disk: the size, the clock and the calls that failed, and nothing
+-- of bytes.
 abbrev pub size_of : FileState → ℕ
 size_of d = d.size
 
@@ -80,8 +83,8 @@ broken_down d = record d { broken = true }
 abbrev pub follows : ℕ → ℕ → FileState → Bool
 follows at count d = nat_lt 0 (length d.gathered) && (at == d.from + length d.gathered) && nat_le (length d.gathered + count) (2 ^ 20)
 
--- After a write: the piece is gathered behind the others where it follows them, it is gathered alone where it does not, and where it
--- is longer than 1 MiB or there is no room it is sent.
+-- After a write: the piece is gathered behind the others where it follows them, it is gathered
+-- alone where it does not, and where it is longer than 1 MiB or there is no room it is sent.
 abbrev pub after_write : ℕ → List ℕ → FileState → FileState
 after_write at piece d =
     if follows at (length piece) d then record d { size = max d.size (at + length piece); gathered = d.gathered ++ piece }

@@ -5,8 +5,8 @@ use Rattle.std.specs.declared.io.Error.{Error}
 use Rattle.std.specs.declared.io.ErrorKind.{ErrorKind}
 use Rattle.std.specs.declared.io.ErrorKind.TheVariants.{InvalidInput, ReadOnlyFilesystem}
 
--- A sync that fails with this kind of error left nothing undone: the file is only read, and its medium takes no sync. See fsync(2),
--- EROFS and EINVAL.
+-- A sync that fails with this kind of error left nothing undone: the file is only read, and its
+-- medium takes no sync. See fsync(2), EROFS and EINVAL.
 abbrev pub needs_no_sync : (writable : Bool) → ErrorKind → Bool
 needs_no_sync false InvalidInput = true
 needs_no_sync false ReadOnlyFilesystem = true

@@ -18,14 +18,17 @@ pub const ROOM: usize = 1 << 20;
 
 /// A disk that is a file of the system. It tells nothing of its bytes.
 ///
-/// Writes that follow one another are gathered, up to 1 MiB, and sent as one: before a read, a cut and a sync, before a write
-/// elsewhere, and where there is no room for more. So a fault is answered where it surfaces, which may be a later call than the
-/// write. After a write, a cut or a sync that failed nothing is tried again, since the system may have dropped the bytes and say
-/// so only once: from then on each call answers `Failed`.
+/// Writes that follow one another are gathered, up to 1 MiB, and sent as one: before a read, a cut
+/// and a sync, before a write elsewhere, and where there is no room for more. So a fault is
+/// answered where it surfaces, which may be a later call than the write. After a write, a cut or a
+/// sync that failed nothing is tried again, since the system may have dropped the bytes and say so
+/// only once: from then on each call answers `Failed`.
 ///
-/// Memory is taken at the first write that is gathered. While there is none, each write goes straight to the file.
+/// Memory is taken at the first write that is gathered. While there is none, each write goes
+/// straight to the file.
 ///
-/// The size is kept here, with what is gathered. Each `Failed` raises the count of faults, which ends at the greatest u64.
+/// The size is kept here, with what is gathered. Each `Failed` raises the count of faults, which
+/// ends at the greatest u64.
 #[derive(Debug, Drop)]
 pub struct FileDisk<F> {
     file: F,
@@ -69,8 +72,8 @@ impl<F> Model for FileDisk<F> {
 }
 
 impl<F: FileExt + OpenFile + Drop> FileDisk<F> {
-    /// A file that is open, of this size, which is below 2^63. The folder is given where the file may be new there: the first
-    /// sync then makes the file's name stable too. Takes no memory.
+    /// A file that is open, of this size, which is below 2^63. The folder is given where the file
+    /// may be new there: the first sync then makes the file's name stable too. Takes no memory.
     pub fn new(alloc: Global, file: F, folder: Option<F>, writable: bool, size: u64) -> FileDisk<F>
         requires small { size < 2 ^ 63 }
         ensures new { result ≡ opened size writable (is_some folder) }
@@ -135,7 +138,8 @@ impl<F: FileExt + OpenFile + Drop> FileDisk<F> {
         Ok(())
     }
 
-    // Whether so many bytes at this place follow those that are gathered, and there is room for them.
+    // Whether so many bytes at this place follow those that are gathered, and there is room for
+    // them.
     fn follows(&self, at: u64, count: usize) -> bool
         ensures { result ≡ follows at count self.now }
     {
@@ -207,7 +211,8 @@ fn room_for(alloc: Global) -> Result<Vec<u8>, AllocError>
     vec![in alloc; 0; ROOM]
 }
 
-// What the answer to a sync says: all is stable only if it was done, or there was nothing to be made stable.
+// What the answer to a sync says: all is stable only if it was done, or there was nothing to be
+// made stable.
 fn settled(writable: bool, answer: io::Result<()>) -> io::Result<()>
     ensures stable { IsOk result ↔ IsStable writable answer }
     ensures failed { OnErr result (result ≡ answer) }
@@ -218,7 +223,8 @@ fn settled(writable: bool, answer: io::Result<()>) -> io::Result<()>
     }
 }
 
-// Whether a sync that fails so left nothing undone: the file is only read, and stands on a medium that takes no sync.
+// Whether a sync that fails so left nothing undone: the file is only read, and stands on a medium
+// that takes no sync.
 fn needs_no_sync(writable: bool, kind: ErrorKind) -> bool
     ensures { result ≡ needs_no_sync writable kind }
 {

@@ -1,4 +1,5 @@
-// A file that is locked. Only of such a file is the size asked, so it is asked while no other program can change it.
+// A file that is locked. Only of such a file is the size asked, so it is asked while no other
+// program can change it.
 ghost use Rattle.std.specs.Prelude.{◌≡◌, ◌^◌, ◌<◌, ◌≤◌, ◌↔◌, is_some, IfOk, IsOk, IsErrAnd};
 ghost use Rattle.std.specs.Fs.{IsFile, file_type, metadata_len};
 ghost use Rattle.file_disk.specs.Opening.{held};
@@ -13,7 +14,8 @@ use std::fs::{File, Metadata, TryLockError};
 // A size that is larger than this is no size of a disk.
 const GREATEST: u64 = (1 << 63) - 1;
 
-// A file that this program has for itself, or with others that only read. The lock goes with the file.
+// A file that this program has for itself, or with others that only read. The lock goes with the
+// file.
 #[derive(Drop)]
 pub(crate) struct Locked {
     file: File,

@@ -35,8 +35,8 @@ impl From<io::Error> for OpenStop {
 }
 
 impl FileDisk<File> {
-    /// Opens the file of this path to be read and written, and makes it where there is none. No other program may have it open as
-    /// a disk.
+    /// Opens the file of this path to be read and written, and makes it where there is none. No
+    /// other program may have it open as a disk.
     pub fn create<R: Files<File = File>>(
         files: &R,
         alloc: Global,
@@ -50,7 +50,8 @@ impl FileDisk<File> {
         Locked::new(file, true)?.into_disk(alloc, Some(folder))
     }
 
-    /// Opens the file of this path, which is there, to be read and written. No other program may have it open as a disk.
+    /// Opens the file of this path, which is there, to be read and written. No other program may
+    /// have it open as a disk.
     pub fn open<R: Files<File = File>>(
         files: &R,
         alloc: Global,
@@ -63,8 +64,8 @@ impl FileDisk<File> {
         Locked::new(file, true)?.into_disk(alloc, None)
     }
 
-    /// Opens the file of this path, which is there, to be read alone. Other programs may do so too, but none may have it open to
-    /// write.
+    /// Opens the file of this path, which is there, to be read alone. Other programs may do so too,
+    /// but none may have it open to write.
     pub fn open_to_read<R: Files<File = File>>(
         files: &R,
         alloc: Global,

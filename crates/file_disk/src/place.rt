@@ -1,4 +1,5 @@
-// A path that may be opened. Only such a path is, so no pipe is opened: that would wait for another program.
+// A path that may be opened. Only such a path is, so no pipe is opened: that would wait for another
+// program.
 ghost use Rattle.std.specs.Prelude.{◌≡◌, ◌⊎◌, ◌↔◌, false, is_err, IfOk, IfErr, IsOk, IsOkAnd, IsErrAnd};
 ghost use Rattle.std.specs.IoError.{error_kind};
 ghost use Rattle.std.specs.Fs.{IsFile, file_type};

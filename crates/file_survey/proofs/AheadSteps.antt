@@ -1,4 +1,5 @@
--- What the loops over files look at: the items that are ahead, the last of them, and that files which are read as whole hold one.
+-- What the loops over files look at: the items that are ahead, the last of them, and that files
+-- which are read as whole hold one.
 use Rattle.std.specs.Prelude.{◌≡◌, ◌≢◌, ℕ, zero, suc, ◌+◌, List, [], ◌∷◌, ◌++◌, length, drop, None, Some, Result, Ok, Err}
 use Rattle.std.proofs.Common.{refl, sym, ap, subst, ◌∙◌, append_assoc, append-nil}
 use Rattle.send_model.specs.Refusal.{Refusal}

@@ -1,4 +1,5 @@
--- An ordered index of UUIDs: what it has is what a comparison finds, and one UUID more is found in it.
+-- An ordered index of UUIDs: what it has is what a comparison finds, and one UUID more is found in
+-- it.
 use Rattle.std.proofs.Common.{◌≡◌, ℕ, Bool, true, false, cond, ◌||◌, List, [], ◌∷◌, ◌++◌, refl, sym, ◌∙◌}
 use Rattle.std.proofs.lemmas.List.Folds.{list_any-append}
 use Rattle.std.proofs.lemmas.Map.Text.{is_eq-slice_cmp}

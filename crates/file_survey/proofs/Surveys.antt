@@ -1,4 +1,5 @@
--- What is known of the commands of a file and of files: what the loops over them keep, and what holds at each of their ends.
+-- What is known of the commands of a file and of files: what the loops over them keep, and what
+-- holds at each of their ends.
 use Rattle.std.specs.Prelude.{◌≡◌, ℕ, ◌+◌, ◌<◌, ◌≤◌, ◌==◌, ◌||◌, Bool, true, false, List, [], ◌∷◌, ◌++◌, map, length, take, drop, Option, None, Some, Result, Ok, Err, slice_index_or, String, IfSome, option_map, is_some, if◌then◌else◌}
 use Rattle.std.specs.List.{list_any}
 use Rattle.std.specs.String.{string_bytes}
@@ -14,7 +15,7 @@ use Rattle.send_model.specs.Outside.{part_uuids, is_among, keys_named}
 use Rattle.send_model.specs.Composed.{last_head, version_of}
 use Rattle.send_model.specs.Laws.{CanWrite}
 use Rattle.send_model.specs.Lengths.{limit, only_ends, too_long}
-use Rattle.send_model.specs.Renamed.{Names, name_for, named_as, renamed_items, renamed}
+use Rattle.send_model.specs.Overridden.{Override, Overrides, override_for, overridden_as, overridden_items, overridden}
 use Rattle.send_model.proofs.Composed.{last_there}
 use Rattle.send_model.proofs.Sorts.{same_inside}
 use Rattle.sx_base.specs.Outside.{file_at}
@@ -37,7 +38,7 @@ use Rattle.cmd_reader.specs.Mentions.{as_mention, tells_of_parts, is_any}
 use Rattle.cmd_reader.specs.Glances.{IsGlance, GlanceSays, GlanceFits}
 use Rattle.cmd_reader.proofs.Aheads.{says_end, glance_is}
 use Rattle.cmd_reader.proofs.Told.{Here, told_both, told_always, told_here, told_moved, told_next}
-use Rattle.part_names.specs.Naming.{command_as}
+use Rattle.send_model.specs.Overridden.{command_as}
 use Rattle.file_survey.specs.Ahead.{IsAhead, then_reading}
 use Rattle.cmd_reader.specs.Stopping.{outcome_at}
 use Rattle.file_survey.specs.Findings.{Surveyed, nothing_seen, uuid_in, joined_by, uuids_named, all_uuids_named, with_head, with_named, with_version, after_command, seen_head, seen_named, after_glance, after_items, AreReadable, FileRead, FileStop, FileEnd, AllRead, SurveyStop, SurveyEnd}
@@ -46,8 +47,8 @@ use Rattle.send_model.proofs.TooLong.{short_fits, fault_fits, long_is}
 use Rattle.file_survey.proofs.TooLong.{LongAhead, long_start, long_end, long_next, long_fault, long_here}
 use Rattle.sx_base.proofs.NamedFiles.{file_there, count_of_files}
 use Rattle.file_survey.proofs.FilesAhead.{then_then, ahead_file}
-use Rattle.file_survey.specs.NamedGlances.{HasName}
-use Rattle.file_survey.proofs.NamedItems.{both_named, then_nothing, version_named, no_head, mention_is, item_can_write, item_readable}
+use Rattle.file_survey.specs.NamedGlances.{IsMeantGlance}
+use Rattle.file_survey.proofs.NamedItems.{both_with, then_nothing, version_with, no_head, mention_is, item_can_write, item_readable}
 
 -- ---- commands and more commands
 
@@ -150,7 +151,7 @@ after_seen now version o command e =
     ap (λ (head : Option Head). with_version (with_named (with_head now head) (seen_named o)) version) seen.0
     ∙ ap (λ (uuids : List (List ℕ)). with_version (with_named (with_head now (head_of command)) uuids) version) seen.1
 
-pub glance_writable : (given : Option (List ℕ)) (o : Option Glance) (glance named : Glance) (old new : Reader) → o ≡ Some glance → HasName given glance named → IfItem (Ok o) (GlanceFits old new)
+pub glance_writable : (given : Override) (o : Option Glance) (glance named : Glance) (old new : Reader) → o ≡ Some glance → IsMeantGlance given glance named → IfItem (Ok o) (GlanceFits old new)
     → IfSome named.mention (λ command. IsWritable named.version (meaning_of command))
 glance_writable given o glance named old new e has fits =
     let f = subst (λ (x : Option Glance). IfItem (Ok x) (GlanceFits old new)) e fits in
@@ -158,31 +159,32 @@ glance_writable given o glance named old new e has fits =
 
 -- ---- the commands of a file
 
--- These commands of the file were read, with what they say with the name that is given for it, and the reader has not gone past its bytes.
-pub record FileSoFar (file : ℕ) (given : Option (List ℕ)) (reader : Reader) (old now : Surveyed) (bytes : List ℕ) : Type 0 where
+-- These commands of the file were read, with what they say with the name that is given for it, and
+-- the reader has not gone past its bytes.
+pub record FileSoFar (file : ℕ) (given : Override) (reader : Reader) (old now : Surveyed) (bytes : List ℕ) : Type 0 where
   pub items : List Item
   pub read : reads file bytes ≡ then_reading items (left reader bytes)
-  pub writable : AreReadable (map (named_as given) items)
-  pub seen : now ≡ after_items old (map (named_as given) items)
+  pub writable : AreReadable (map (overridden_as given) items)
+  pub seen : now ≡ after_items old (map (overridden_as given) items)
   pub within : reader.offset ≤ length bytes
 
-start_of_file : (file : ℕ) (given : Option (List ℕ)) (name : List ℕ) (seen : Surveyed) (bytes : List ℕ) → FileSoFar file given (at_start file name) seen seen bytes
+start_of_file : (file : ℕ) (given : Override) (name : List ℕ) (seen : Surveyed) (bytes : List ℕ) → FileSoFar file given (at_start file name) seen seen bytes
 unfolding left reads
 start_of_file file given name seen bytes = record { items = []; read = refl; writable = tt; seen = sym (after_none seen); within = omega arith }
 
 -- Before the first command.
-pub file_start : (told : Option (List (List ℕ × List ℕ))) (file : ℕ) (given : Option (List ℕ)) (name : List ℕ) (reader : Reader) (last : Surveyed) → reader ≡ at_start file name → IfTold told name (FileSoFar file given reader last last)
+pub file_start : (told : Option (List (List ℕ × List ℕ))) (file : ℕ) (given : Override) (name : List ℕ) (reader : Reader) (last : Surveyed) → reader ≡ at_start file name → IfTold told name (FileSoFar file given reader last last)
 file_start told file given name reader last is =
     let S : Reader → Type 0 = λ r. IfTold told name (FileSoFar file given r last last) in
     let fresh : Reader = at_start file name in
     subst S (sym is) (told_always told name (FileSoFar file given fresh last last) (λ bytes. start_of_file file given name last bytes))
 
-next_of_file : (file : ℕ) (given : Option (List ℕ)) (old new : Reader) (item : Item) (before last now : Surveyed) (bytes : List ℕ) → CanWrite (named_as given item).version (named_as given item).command × (is_version (named_as given item).version ≡ true)
-    → now ≡ after_command last (named_as given item).version (named_as given item).command → FileSoFar file given old before last bytes → GoesOn old new item bytes → FileSoFar file given new before now bytes
+next_of_file : (file : ℕ) (given : Override) (old new : Reader) (item : Item) (before last now : Surveyed) (bytes : List ℕ) → CanWrite (overridden_as given item).version (overridden_as given item).command × (is_version (overridden_as given item).version ≡ true)
+    → now ≡ after_command last (overridden_as given item).version (overridden_as given item).command → FileSoFar file given old before last bytes → GoesOn old new item bytes → FileSoFar file given new before now bytes
 next_of_file file given old new item before last now bytes can head h n =
-    let this : Item = named_as given item in
-    let all : List Item = map (named_as given) h.items in
-    let more : map (named_as given) (h.items ++ item ∷ []) ≡ all ++ this ∷ [] = map-append (named_as given) h.items (item ∷ []) in
+    let this : Item = overridden_as given item in
+    let all : List Item = map (overridden_as given) h.items in
+    let more : map (overridden_as given) (h.items ++ item ∷ []) ≡ all ++ this ∷ [] = map-append (overridden_as given) h.items (item ∷ []) in
     record {
       items = h.items ++ item ∷ [];
       read = h.read ∙ ap (then_reading h.items) n.left_is ∙ then_then h.items (item ∷ []) (left new bytes);
@@ -193,8 +195,8 @@ next_of_file file given old new item before last now bytes can head h n =
     }
 
 -- A command was gone past, and what is seen of it has the name that is given.
-pub file_next : (told told_now : Option (List (List ℕ × List ℕ))) (file : ℕ) (given : Option (List ℕ)) (name : List ℕ) (old new : Reader) (o : Option Glance) (glance named : Glance) (before last now : Surveyed) (early late : ℕ) → told_now ≡ told → old.name ≡ name → o ≡ Some glance
-    → HasName given glance named → now ≡ after_glance last named.version named.mention
+pub file_next : (told told_now : Option (List (List ℕ × List ℕ))) (file : ℕ) (given : Override) (name : List ℕ) (old new : Reader) (o : Option Glance) (glance named : Glance) (before last now : Surveyed) (early late : ℕ) → told_now ≡ told → old.name ≡ name → o ≡ Some glance
+    → IsMeantGlance given glance named → now ≡ after_glance last named.version named.mention
     → IfTold told name (FileSoFar file given old before last) → GlanceSays told_now old new early late (Ok o) → IfTold told name (FileSoFar file given new before now)
 file_next told told_now file given name old new o glance named before last now early late t n is has kept h says =
     told_both told name (FileSoFar file given old before last) (GoesOn old new g.item) (FileSoFar file given new before now)
@@ -204,22 +206,22 @@ file_next told told_now file given name old new o glance named before last now e
     g : IsGlance told_now old new glance
     g = glance_is told_now old new early late o glance is says
 
-    version : named.version ≡ (named_as given g.item).version
-    version = has.version ∙ sym g.version ∙ sym (version_named given g.item)
+    version : named.version ≡ (overridden_as given g.item).version
+    version = has.version ∙ sym g.version ∙ sym (version_with given g.item)
 
     can : CanWrite g.item.version (command_as given g.item.command)
     can = item_can_write given g.item glance.mention named.mention g.mention has.mention (has.can_write g.item.version g.read.version) g.read.can_write
 
-    known : now ≡ after_command last (named_as given g.item).version (named_as given g.item).command
+    known : now ≡ after_command last (overridden_as given g.item).version (overridden_as given g.item).command
     known =
-        let this : Item = named_as given g.item in
+        let this : Item = overridden_as given g.item in
         kept ∙ after_seen last named.version named.mention this.command (mention_is given g.item glance.mention named.mention g.mention has.mention) ∙ ap (λ (v : ℕ). after_command last v this.command) version
 
-read_to : (file : ℕ) (given : Option (List ℕ)) (reader : Reader) (before last : Surveyed) (bytes : List ℕ) (ending : reading.Ending) (h : FileSoFar file given reader before last bytes) → left reader bytes ≡ record { items = []; end = ending } → reads file bytes ≡ record { items = h.items; end = ending }
+read_to : (file : ℕ) (given : Override) (reader : Reader) (before last : Surveyed) (bytes : List ℕ) (ending : reading.Ending) (h : FileSoFar file given reader before last bytes) → left reader bytes ≡ record { items = []; end = ending } → reads file bytes ≡ record { items = h.items; end = ending }
 read_to file given reader before last bytes ending h is = h.read ∙ ap (then_reading h.items) is ∙ ap (λ (is : List Item). record { items = is; end = ending }) (append-nil h.items)
 
 -- The file ends.
-pub file_whole : (told told_now : Option (List (List ℕ × List ℕ))) (file : ℕ) (given : Option (List ℕ)) (name : List ℕ) (old new : Reader) (o : Option Glance) (before last : Surveyed) (early late : ℕ) → told_now ≡ told → old.name ≡ name → o ≡ None
+pub file_whole : (told told_now : Option (List (List ℕ × List ℕ))) (file : ℕ) (given : Override) (name : List ℕ) (old new : Reader) (o : Option Glance) (before last : Surveyed) (early late : ℕ) → told_now ≡ told → old.name ≡ name → o ≡ None
     → IfTold told name (FileSoFar file given old before last) → GlanceSays told_now old new early late (Ok o) → IfTold told name (FileRead file given true before last)
 file_whole told told_now file given name old new o before last early late t n none h says =
     told_both told name (FileSoFar file given old before last) (HasEnded old) (FileRead file given true before last) by_file h
@@ -229,7 +231,7 @@ file_whole told told_now file given name old new o before last early late t n no
     by_file bytes h (is, less) = record { items = h.items; ending = Whole; read = read_to file given old before last bytes Whole h is; end_is = refl; writable = h.writable; seen = h.seen; fits = short_fits file bytes less }
 
 -- The file breaks a rule.
-pub file_fault : (told told_now : Option (List (List ℕ × List ℕ))) (file : ℕ) (given : Option (List ℕ)) (name : List ℕ) (old new : Reader) (verdict : Verdict) (why : ReadStop) (before last : Surveyed) (early late : ℕ) → told_now ≡ told → old.name ≡ name → why ≡ stop.Refused verdict
+pub file_fault : (told told_now : Option (List (List ℕ × List ℕ))) (file : ℕ) (given : Override) (name : List ℕ) (old new : Reader) (verdict : Verdict) (why : ReadStop) (before last : Surveyed) (early late : ℕ) → told_now ≡ told → old.name ≡ name → why ≡ stop.Refused verdict
     → IfTold told name (FileSoFar file given old before last) → GlanceSays told_now old new early late (Err why) → IfTold told name (FileRead file given false before last)
 file_fault told told_now file given name old new verdict why before last early late t n refused h says =
     told_both told name (Here (FileSoFar file given old before last)) (Here Broken) (FileRead file given false before last) by_file (told_here told name (FileSoFar file given old before last) h)
@@ -245,7 +247,7 @@ file_fault told told_now file given name old new verdict why before last early l
         record { items = h.items; ending = ending; read = read_to file given old before last bytes ending h broken.0; end_is = (verdict_meant verdict, refl); writable = h.writable; seen = h.seen; fits = fault_fits file bytes (verdict_meant verdict) broken.1 ends }
 
 -- The file could not be read on.
-pub file_stop : (told told_now : Option (List (List ℕ × List ℕ))) (file : ℕ) (given : Option (List ℕ)) (name : List ℕ) (old new : Reader) (why : ReadStop) (outcome : Outcome) (before last : Surveyed) (early late : ℕ) → told_now ≡ told → old.name ≡ name → ((verdict : Verdict) → why ≡ stop.Refused verdict → ⊥) → outcome ≡ outcome_at file why
+pub file_stop : (told told_now : Option (List (List ℕ × List ℕ))) (file : ℕ) (given : Override) (name : List ℕ) (old new : Reader) (why : ReadStop) (outcome : Outcome) (before last : Surveyed) (early late : ℕ) → told_now ≡ told → old.name ≡ name → ((verdict : Verdict) → why ≡ stop.Refused verdict → ⊥) → outcome ≡ outcome_at file why
     → IfTold told name (FileSoFar file given old before last) → GlanceSays told_now old new early late (Err why) → IfTold told name (FileStop file outcome)
 file_stop told told_now file given name old new why outcome before last early late t n other is h says = subst (λ (x : Outcome). IfTold told name (FileStop file x)) (sym is) (by_why why other says)
   where
@@ -263,39 +265,39 @@ file_stop told told_now file given name old new why outcome before last early la
 
 -- ---- the commands of files
 
--- These commands of the files up to one with this number were read, with what they say with the names that are given, and none of these
--- files is too long.
-pub record FilesSoFar (given : Names) (number : ℕ) (last : Surveyed) (files : List (List ℕ)) : Type 0 where
+-- These commands of the files up to one with this number were read, with what they say with the
+-- names that are given, and none of these files is too long.
+pub record FilesSoFar (given : Overrides) (number : ℕ) (last : Surveyed) (files : List (List ℕ)) : Type 0 where
   pub items : List Item
   pub ahead : IsAhead files items ended number (drop number files)
   pub long : LongAhead files number (drop number files)
-  pub writable : AreReadable (renamed_items given items)
-  pub seen : last ≡ after_items nothing_seen (renamed_items given items)
+  pub writable : AreReadable (overridden_items given items)
+  pub seen : last ≡ after_items nothing_seen (overridden_items given items)
 
 -- Before the first file.
-pub files_start : (given : Names) (told : Option (List (List ℕ × List ℕ))) (names : List (List ℕ)) (seen : Surveyed) → seen ≡ nothing_seen → IfAllTold told names (FilesSoFar given 0 seen)
+pub files_start : (given : Overrides) (told : Option (List (List ℕ × List ℕ))) (names : List (List ℕ)) (seen : Surveyed) → seen ≡ nothing_seen → IfAllTold told names (FilesSoFar given 0 seen)
 files_start given None names seen is = tt
 files_start given (Some table) names seen is = record { items = []; ahead = ahead_start (contents table names); long = long_start (contents table names); writable = tt; seen = is ∙ sym (after_none nothing_seen) }
 
-ahead_both : (given : Names) (files : List (List ℕ)) (number : ℕ) (bytes : List ℕ) (whole : Bool) (last now : Surveyed) (s : FilesSoFar given number last files) (h : FileRead (number + 1) (name_for given (number + 1)) whole last now bytes)
+ahead_both : (given : Overrides) (files : List (List ℕ)) (number : ℕ) (bytes : List ℕ) (whole : Bool) (last now : Surveyed) (s : FilesSoFar given number last files) (h : FileRead (number + 1) (override_for given (number + 1)) whole last now bytes)
     → drop number files ≡ bytes ∷ drop (number + 1) files → IsAhead files (s.items ++ h.items) (record { items = []; end = h.ending }) (number + 1) (drop (number + 1) files)
 ahead_both given files number bytes whole last now s h here =
     ahead_file files s.items number bytes (drop (number + 1) files) h.items (record { items = []; end = h.ending }) (subst (λ (after : List (List ℕ)). IsAhead files s.items ended number after) here s.ahead)
     (then_nothing (reads (number + 1) bytes) h.items h.ending h.read)
 
-module _ (given : Names) (number : ℕ) (files : List (List ℕ)) (bytes : List ℕ) (whole : Bool) (last now : Surveyed) (s : FilesSoFar given number last files) (h : FileRead (number + 1) (name_for given (number + 1)) whole last now bytes) where
-  named_both : renamed_items given (s.items ++ h.items) ≡ renamed_items given s.items ++ map (named_as (name_for given (number + 1))) h.items
-  named_both = both_named given (number + 1) bytes s.items h.items (record { items = []; end = h.ending }) (then_nothing (reads (number + 1) bytes) h.items h.ending h.read)
+module _ (given : Overrides) (number : ℕ) (files : List (List ℕ)) (bytes : List ℕ) (whole : Bool) (last now : Surveyed) (s : FilesSoFar given number last files) (h : FileRead (number + 1) (override_for given (number + 1)) whole last now bytes) where
+  named_both : overridden_items given (s.items ++ h.items) ≡ overridden_items given s.items ++ map (overridden_as (override_for given (number + 1))) h.items
+  named_both = both_with given (number + 1) bytes s.items h.items (record { items = []; end = h.ending }) (then_nothing (reads (number + 1) bytes) h.items h.ending h.read)
 
-  seen_both : now ≡ after_items nothing_seen (renamed_items given (s.items ++ h.items))
+  seen_both : now ≡ after_items nothing_seen (overridden_items given (s.items ++ h.items))
   seen_both =
-      let more : List Item = map (named_as (name_for given (number + 1))) h.items in
-      h.seen ∙ ap (λ (x : Surveyed). after_items x more) s.seen ∙ sym (after_both (renamed_items given s.items) more nothing_seen) ∙ ap (after_items nothing_seen) (sym named_both)
+      let more : List Item = map (overridden_as (override_for given (number + 1))) h.items in
+      h.seen ∙ ap (λ (x : Surveyed). after_items x more) s.seen ∙ sym (after_both (overridden_items given s.items) more nothing_seen) ∙ ap (after_items nothing_seen) (sym named_both)
 
-  readable_named : AreReadable (renamed_items given (s.items ++ h.items))
-  readable_named = subst AreReadable (sym named_both) (readable_both (renamed_items given s.items) (map (named_as (name_for given (number + 1))) h.items) s.writable h.writable)
+  readable_named : AreReadable (overridden_items given (s.items ++ h.items))
+  readable_named = subst AreReadable (sym named_both) (readable_both (overridden_items given s.items) (map (overridden_as (override_for given (number + 1))) h.items) s.writable h.writable)
 
-next_of_files : (given : Names) (files : List (List ℕ)) (number : ℕ) (bytes : List ℕ) (last now : Surveyed) → drop number files ≡ bytes ∷ drop (number + 1) files → FilesSoFar given number last files → FileRead (number + 1) (name_for given (number + 1)) true last now bytes
+next_of_files : (given : Overrides) (files : List (List ℕ)) (number : ℕ) (bytes : List ℕ) (last now : Surveyed) → drop number files ≡ bytes ∷ drop (number + 1) files → FilesSoFar given number last files → FileRead (number + 1) (override_for given (number + 1)) true last now bytes
     → FilesSoFar given (number + 1) now files
 next_of_files given files number bytes last now here s h = record {
   items = s.items ++ h.items;
@@ -310,11 +312,11 @@ version_after : (items : List Item) → (after_items nothing_seen items).version
 unfolding version_of
 version_after items = refl
 
-all_read : (given : Names) (files : List (List ℕ)) (items : List Item) (ending : reading.Ending) (last : Surveyed) → input files ≡ record { items = items; end = ending } → AreReadable (renamed_items given items) → last ≡ after_items nothing_seen (renamed_items given items)
+all_read : (given : Overrides) (files : List (List ℕ)) (items : List Item) (ending : reading.Ending) (last : Surveyed) → input files ≡ record { items = items; end = ending } → AreReadable (overridden_items given items) → last ≡ after_items nothing_seen (overridden_items given items)
     → too_long files ≡ None → AllRead given last files
 all_read given files read ending last is writable seen fits =
-    let items : List Item = renamed_items given read in
-    let all : items ≡ (renamed given (input files)).items = ap (λ (r : Reading). renamed_items given r.items) (sym is) in
+    let items : List Item = overridden_items given read in
+    let all : items ≡ (overridden given (input files)).items = ap (λ (r : Reading). overridden_items given r.items) (sym is) in
     record {
       last = ap (λ (s : Surveyed). s.last) seen ∙ sym (first_alone (last_head (heads items))) ∙ ap (λ (is : List Item). last_head (heads is)) all;
       parts = ap (λ (s : Surveyed). s.parts) seen ∙ ap part_uuids all;
@@ -324,7 +326,7 @@ all_read given files read ending last is writable seen fits =
       fits = fits;
     }
 
-fault_of_files : (given : Names) (files : List (List ℕ)) (number : ℕ) (bytes : List ℕ) (last now : Surveyed) → drop number files ≡ bytes ∷ drop (number + 1) files → FilesSoFar given number last files → FileRead (number + 1) (name_for given (number + 1)) false last now bytes
+fault_of_files : (given : Overrides) (files : List (List ℕ)) (number : ℕ) (bytes : List ℕ) (last now : Surveyed) → drop number files ≡ bytes ∷ drop (number + 1) files → FilesSoFar given number last files → FileRead (number + 1) (override_for given (number + 1)) false last now bytes
     → AllRead given now files
 fault_of_files given files number bytes last now here s h =
     let items : List Item = s.items ++ h.items in
@@ -332,7 +334,7 @@ fault_of_files given files number bytes last now here s h =
     all_read given files items (Faulty h.end_is.0) now all (readable_named given number files bytes false last now s h) (seen_both given number files bytes false last now s h)
     (long_fault files number bytes (drop (number + 1) files) h.end_is.0 here s.long h.fits (ap (λ (r : Reading). r.end) h.read ∙ h.end_is.1))
 
-end_of_files : (given : Names) (files : List (List ℕ)) (number : ℕ) (last : Surveyed) → drop number files ≡ [] → FilesSoFar given number last files → AllRead given last files
+end_of_files : (given : Overrides) (files : List (List ℕ)) (number : ℕ) (last : Surveyed) → drop number files ≡ [] → FilesSoFar given number last files → AllRead given last files
 end_of_files given files number last past s =
     all_read given files s.items Whole last (ahead_whole files s.items ended number (subst (λ (after : List (List ℕ)). IsAhead files s.items ended number after) past s.ahead) refl) s.writable s.seen
     (long_end files number past s.long)
@@ -345,28 +347,28 @@ pub record NextName {Z : Type 0} (told told_now : Option (List (List ℕ × List
   pub spelling : spelled ≡ string_bytes name
 
 -- What was read of the next file, as of a table of files.
-next_read : {Z : Type 0} (given : Names) (table : List (List ℕ × List ℕ)) (told_now : Option (List (List ℕ × List ℕ))) (names : List (String Z)) (number : ℕ) (name : String Z) (spelled : List ℕ) (last now : Surveyed) (result said : Result Bool Outcome)
-    → NextName (Some table) told_now names number name spelled → result ≡ said → IfTold told_now spelled (FileEnd (number + 1) (name_for given (number + 1)) last now result) → FileEnd (number + 1) (name_for given (number + 1)) last now said (file_at table (string_bytes name))
+next_read : {Z : Type 0} (given : Overrides) (table : List (List ℕ × List ℕ)) (told_now : Option (List (List ℕ × List ℕ))) (names : List (String Z)) (number : ℕ) (name : String Z) (spelled : List ℕ) (last now : Surveyed) (result said : Result Bool Outcome)
+    → NextName (Some table) told_now names number name spelled → result ≡ said → IfTold told_now spelled (FileEnd (number + 1) (override_for given (number + 1)) last now result) → FileEnd (number + 1) (override_for given (number + 1)) last now said (file_at table (string_bytes name))
 next_read given table told_now names number name spelled last now result said n r h =
-    told_next table told_now name spelled (FileEnd (number + 1) (name_for given (number + 1)) last now said) n.same n.spelling (subst (λ (x : Result Bool Outcome). IfTold told_now spelled (FileEnd (number + 1) (name_for given (number + 1)) last now x)) r h)
+    told_next table told_now name spelled (FileEnd (number + 1) (override_for given (number + 1)) last now said) n.same n.spelling (subst (λ (x : Result Bool Outcome). IfTold told_now spelled (FileEnd (number + 1) (override_for given (number + 1)) last now x)) r h)
 
 -- The next file was read to its end.
-pub files_next : {Z : Type 0} (given : Names) (told told_now : Option (List (List ℕ × List ℕ))) (names : List (String Z)) (number : ℕ) (name : String Z) (spelled : List ℕ) (last now : Surveyed) (result : Result Bool Outcome)
-    → NextName told told_now names number name spelled → result ≡ Ok true → IfAllTold told (map string_bytes names) (FilesSoFar given number last) → IfTold told_now spelled (FileEnd (number + 1) (name_for given (number + 1)) last now result) → IfAllTold told (map string_bytes names) (FilesSoFar given (number + 1) now)
+pub files_next : {Z : Type 0} (given : Overrides) (told told_now : Option (List (List ℕ × List ℕ))) (names : List (String Z)) (number : ℕ) (name : String Z) (spelled : List ℕ) (last now : Surveyed) (result : Result Bool Outcome)
+    → NextName told told_now names number name spelled → result ≡ Ok true → IfAllTold told (map string_bytes names) (FilesSoFar given number last) → IfTold told_now spelled (FileEnd (number + 1) (override_for given (number + 1)) last now result) → IfAllTold told (map string_bytes names) (FilesSoFar given (number + 1) now)
 files_next given None told_now names number name spelled last now result n r s h = tt
 files_next given (Some table) told_now names number name spelled last now result n r s h =
     next_of_files given (contents table (map string_bytes names)) number (file_at table (string_bytes name)) last now (file_there table names number name n.less n.is) s
     (next_read given table told_now names number name spelled last now result (Ok true) n r h)
 
 -- The next file breaks a rule.
-pub files_fault : {Z : Type 0} (given : Names) (told told_now : Option (List (List ℕ × List ℕ))) (names : List (String Z)) (number : ℕ) (name : String Z) (spelled : List ℕ) (last now : Surveyed) (result : Result Bool Outcome)
-    → NextName told told_now names number name spelled → result ≡ Ok false → IfAllTold told (map string_bytes names) (FilesSoFar given number last) → IfTold told_now spelled (FileEnd (number + 1) (name_for given (number + 1)) last now result) → IfAllTold told (map string_bytes names) (SurveyEnd given (Ok now))
+pub files_fault : {Z : Type 0} (given : Overrides) (told told_now : Option (List (List ℕ × List ℕ))) (names : List (String Z)) (number : ℕ) (name : String Z) (spelled : List ℕ) (last now : Surveyed) (result : Result Bool Outcome)
+    → NextName told told_now names number name spelled → result ≡ Ok false → IfAllTold told (map string_bytes names) (FilesSoFar given number last) → IfTold told_now spelled (FileEnd (number + 1) (override_for given (number + 1)) last now result) → IfAllTold told (map string_bytes names) (SurveyEnd given (Ok now))
 files_fault given None told_now names number name spelled last now result n r s h = tt
 files_fault given (Some table) told_now names number name spelled last now result n r s h =
     fault_of_files given (contents table (map string_bytes names)) number (file_at table (string_bytes name)) last now (file_there table names number name n.less n.is) s
     (next_read given table told_now names number name spelled last now result (Ok false) n r h)
 
-stop_of_files : (given : Names) (files : List (List ℕ)) (number : ℕ) (bytes : List ℕ) (last : Surveyed) (outcome : Outcome) → drop number files ≡ bytes ∷ drop (number + 1) files → FilesSoFar given number last files → FileStop (number + 1) outcome bytes → SurveyStop outcome files
+stop_of_files : (given : Overrides) (files : List (List ℕ)) (number : ℕ) (bytes : List ℕ) (last : Surveyed) (outcome : Outcome) → drop number files ≡ bytes ∷ drop (number + 1) files → FilesSoFar given number last files → FileStop (number + 1) outcome bytes → SurveyStop outcome files
 stop_of_files given files number bytes last ended_by.NoMemory here s h = tt
 stop_of_files given files number bytes last ended_by.InputFault here s h = tt
 stop_of_files given files number bytes last (ended_by.InputTooLong file) here s h = long_here files number bytes (drop (number + 1) files) here s.long h.1 ∙ ap (λ (n : ℕ). Some n) (sym h.0)
@@ -377,15 +379,15 @@ stop_of_files given files number bytes last (ended_by.TooMuch sum) here s h = el
 stop_of_files given files number bytes last (ended_by.InputChanged file place) here s h = elim h [ ]
 
 -- The next file could not be read.
-pub files_stop : {Z : Type 0} (given : Names) (told told_now : Option (List (List ℕ × List ℕ))) (names : List (String Z)) (number : ℕ) (name : String Z) (spelled : List ℕ) (last now : Surveyed) (result : Result Bool Outcome) (outcome : Outcome)
-    → NextName told told_now names number name spelled → result ≡ Err outcome → IfAllTold told (map string_bytes names) (FilesSoFar given number last) → IfTold told_now spelled (FileEnd (number + 1) (name_for given (number + 1)) last now result) → IfAllTold told (map string_bytes names) (SurveyEnd given (Err outcome))
+pub files_stop : {Z : Type 0} (given : Overrides) (told told_now : Option (List (List ℕ × List ℕ))) (names : List (String Z)) (number : ℕ) (name : String Z) (spelled : List ℕ) (last now : Surveyed) (result : Result Bool Outcome) (outcome : Outcome)
+    → NextName told told_now names number name spelled → result ≡ Err outcome → IfAllTold told (map string_bytes names) (FilesSoFar given number last) → IfTold told_now spelled (FileEnd (number + 1) (override_for given (number + 1)) last now result) → IfAllTold told (map string_bytes names) (SurveyEnd given (Err outcome))
 files_stop given None told_now names number name spelled last now result outcome n r s h = tt
 files_stop given (Some table) told_now names number name spelled last now result outcome n r s h =
     stop_of_files given (contents table (map string_bytes names)) number (file_at table (string_bytes name)) last outcome (file_there table names number name n.less n.is) s
     (next_read given table told_now names number name spelled last now result (Err outcome) n r h)
 
 -- After the last file.
-pub files_end : {Z : Type 0} (given : Names) (told : Option (List (List ℕ × List ℕ))) (names : List (String Z)) (number : ℕ) (last : Surveyed) → length names ≤ number → IfAllTold told (map string_bytes names) (FilesSoFar given number last) → IfAllTold told (map string_bytes names) (SurveyEnd given (Ok last))
+pub files_end : {Z : Type 0} (given : Overrides) (told : Option (List (List ℕ × List ℕ))) (names : List (String Z)) (number : ℕ) (last : Surveyed) → length names ≤ number → IfAllTold told (map string_bytes names) (FilesSoFar given number last) → IfAllTold told (map string_bytes names) (SurveyEnd given (Ok last))
 files_end given None names number last past s = tt
 files_end given (Some table) names number last past s =
     let files : List (List ℕ) = contents table (map string_bytes names) in

@@ -1,4 +1,5 @@
--- The version of the stream that stands for items: no item has a later one, and what an item's version can say can be written in it.
+-- The version of the stream that stands for items: no item has a later one, and what an item's
+-- version can say can be written in it.
 use Rattle.std.specs.Prelude.{◌≡◌, ℕ, ◌≤◌, ◌==◌, Bool, true, false, ◌||◌, List, [], ◌∷◌, ◌++◌, length, if◌then◌else◌}
 use Rattle.std.specs.List.{list_any}
 use Rattle.std.proofs.Common.{refl, sym, ap, subst, ◌∙◌, arith, eq-eqb, ⊎_elim}

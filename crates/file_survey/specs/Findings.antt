@@ -1,4 +1,5 @@
--- What is found out of files that are read for their heads and versions, and why they can not be read on.
+-- What is found out of files that are read for their heads and versions, and why they can not be
+-- read on.
 use Rattle.std.specs.Prelude.{◌≡◌, ◌⊎◌, ⊤, ℕ, ◌==◌, Bool, true, false, List, [], ◌∷◌, ◌++◌, map, Option, None, Some, Result, Ok, Err, if◌then◌else◌}
 use Rattle.std.specs.List.{AllByRecursion, list_any, flat_map}
 use Rattle.send_model.specs.Command.{Command}
@@ -11,7 +12,7 @@ use Rattle.send_model.specs.Outside.{part_uuids, is_among, keys_named}
 use Rattle.send_model.specs.Composed.{last_head, version_of}
 use Rattle.send_model.specs.Laws.{CanWrite}
 use Rattle.send_model.specs.Lengths.{is_too_long, too_long}
-use Rattle.send_model.specs.Renamed.{Names, named_as, renamed}
+use Rattle.send_model.specs.Overridden.{Override, Overrides, overridden_as, overridden}
 use Rattle.send_commands.specs.declared.command.Command as made
 use Rattle.send_commands.specs.Meaning.{meaning_of}
 use Rattle.sx_base.specs.declared.outcome.Outcome.{Outcome}
@@ -19,9 +20,10 @@ use Rattle.sx_base.specs.declared.outcome.Outcome.TheVariants as ended
 
 -- ---- what is known
 
--- The uuids of the parts, in the order of their heads; the uuids that the commands name as those of parents and of sources of clones,
--- each once, in the order in which each is first named; the version of the stream that stands for the parts; and the head of the last
--- part, where there is one.
+-- The uuids of the parts, in the order of their heads; the uuids that the commands name as those of
+-- parents and of sources of clones, each once, in the order in which each is first named; the
+-- version of the stream that stands for the parts; and the head of the last part, where there is
+-- one.
 pub record Surveyed : Type 0 where
   pub parts : List (List ℕ)
   pub named : List (List ℕ)
@@ -109,15 +111,15 @@ abbrev pub EndIs : Bool → reading.Ending → Type 0
 EndIs true ending = ending ≡ Whole
 EndIs false ending = (verdict : reading.Verdict) × (ending ≡ Faulty verdict)
 
--- All commands of a file were read, up to its end or to a fault, and it is not too long. What is known is what they say with the name
--- that is given for the file.
-pub record FileRead (file : ℕ) (name : Option (List ℕ)) (whole : Bool) (old new : Surveyed) (bytes : List ℕ) : Type 0 where
+-- All commands of a file were read, up to its end or to a fault, and it is not too long. What is
+-- known is what they say with what is said in front of the file.
+pub record FileRead (file : ℕ) (said : Override) (whole : Bool) (old new : Surveyed) (bytes : List ℕ) : Type 0 where
   pub items : List Item
   pub ending : reading.Ending
   pub read : reads file bytes ≡ record { items = items; end = ending }
   pub end_is : EndIs whole ending
-  pub writable : AreReadable (map (named_as name) items)
-  pub seen : new ≡ after_items old (map (named_as name) items)
+  pub writable : AreReadable (map (overridden_as said) items)
+  pub seen : new ≡ after_items old (map (overridden_as said) items)
   pub fits : is_too_long file bytes ≡ false
 
 -- Why a file could not be read.
@@ -131,19 +133,20 @@ FileStop file ended.OutputFault bytes = ⊥
 FileStop file (ended.TooMuch sum) bytes = ⊥
 FileStop file (ended.InputChanged number place) bytes = ⊥
 
-abbrev pub FileEnd : ℕ → Option (List ℕ) → Surveyed → Surveyed → Result Bool Outcome → List ℕ → Type 0
-FileEnd file name old new (Ok whole) bytes = FileRead file name whole old new bytes
-FileEnd file name old new (Err outcome) bytes = FileStop file outcome bytes
+abbrev pub FileEnd : ℕ → Override → Surveyed → Surveyed → Result Bool Outcome → List ℕ → Type 0
+FileEnd file said old new (Ok whole) bytes = FileRead file said whole old new bytes
+FileEnd file said old new (Err outcome) bytes = FileStop file outcome bytes
 
 -- ---- all files
 
--- What is known is what holds of all that the files are read as, with the names that are given, and none of them is too long.
-pub record AllRead (names : Names) (seen : Surveyed) (files : List (List ℕ)) : Type 0 where
-  pub last : seen.last ≡ last_head (heads (renamed names (input files)).items)
-  pub parts : seen.parts ≡ part_uuids (renamed names (input files)).items
-  pub named : seen.named ≡ joined_by [] (all_uuids_named (commands_of (renamed names (input files)).items))
-  pub version : seen.version ≡ version_of (renamed names (input files)).items
-  pub writable : AreReadable (renamed names (input files)).items
+-- What is known is what holds of all that the files are read as, with what is said in front of
+-- them, and none of them is too long.
+pub record AllRead (names : Overrides) (seen : Surveyed) (files : List (List ℕ)) : Type 0 where
+  pub last : seen.last ≡ last_head (heads (overridden names (input files)).items)
+  pub parts : seen.parts ≡ part_uuids (overridden names (input files)).items
+  pub named : seen.named ≡ joined_by [] (all_uuids_named (commands_of (overridden names (input files)).items))
+  pub version : seen.version ≡ version_of (overridden names (input files)).items
+  pub writable : AreReadable (overridden names (input files)).items
   pub fits : too_long files ≡ None
 
 -- Why files could not be read. InputTooLong gives the first that is too long.
@@ -157,6 +160,6 @@ SurveyStop ended.OutputFault files = ⊥
 SurveyStop (ended.TooMuch sum) files = ⊥
 SurveyStop (ended.InputChanged number place) files = ⊥
 
-abbrev pub SurveyEnd : Names → Result Surveyed Outcome → List (List ℕ) → Type 0
+abbrev pub SurveyEnd : Overrides → Result Surveyed Outcome → List (List ℕ) → Type 0
 SurveyEnd names (Ok seen) files = AllRead names seen files
 SurveyEnd names (Err outcome) files = SurveyStop outcome files

@@ -111,8 +111,8 @@ impl PartHead {
         }
     }
 
-    /// Appends the header of a stream of the version and the command that begins a part of this name and key and of the given
-    /// parent, or changes nothing where there is no memory.
+    /// Appends the header of a stream of the version and the command that begins a part of this
+    /// name and key and of the given parent, or changes nothing where there is no memory.
     pub fn begin_stream(
         &self,
         parent: Option<Key>,

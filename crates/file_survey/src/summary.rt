@@ -14,9 +14,10 @@ use std::alloc::{AllocError, Global};
 use std::marker::Model;
 use uuid::Uuid;
 
-/// What is known of files once they were read for their heads: the head of the last part, the UUIDs of all parts, the UUIDs that are
-/// named as those of parents and of sources of clones, and the version of the stream that stands for them, which is 2 where a command
-/// of the files has it, and else 1.
+/// What is known of files once they were read for their heads: the head of the last part, the UUIDs
+/// of all parts, the UUIDs that are named as those of parents and of sources of clones, and the
+/// version of the stream that stands for them, which is 2 where a command of the files has it, and
+/// else 1.
 #[derive(Debug, Drop)]
 pub struct Survey {
     last: Option<PartHead>,
@@ -78,14 +79,16 @@ impl Survey {
         self.parts.has(uuid)
     }
 
-    /// Whether a command names the UUID as that of a parent or of a source of a clone. Takes no memory.
+    /// Whether a command names the UUID as that of a parent or of a source of a clone. Takes no
+    /// memory.
     pub fn names(&self, uuid: Uuid) -> bool
         ensures { result ≡ is_among self.now.named uuid }
     {
         self.named.has(uuid)
     }
 
-    // Keeps what was seen of a command: the head that it is, if it is one, what it names, and its version.
+    // Keeps what was seen of a command: the head that it is, if it is one, what it names, and its
+    // version.
     pub(crate) fn keep(&mut self, alloc: Global, glance: &Glance<'_>) -> Result<(), AllocError>
         requires writable { IfSome glance.now.mention
             (λ command. IsWritable glance.now.version (meaning_of command)) }

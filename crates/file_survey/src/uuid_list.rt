@@ -8,7 +8,8 @@ use std::collections::BTreeSet;
 use std::marker::Model;
 use uuid::Uuid;
 
-// UUIDs in their order, some of them maybe more than once, with an ordered index by which each is found.
+// UUIDs in their order, some of them maybe more than once, with an ordered index by which each is
+// found.
 #[derive(Debug, Drop)]
 pub(crate) struct UuidList {
     list: Vec<Uuid>,

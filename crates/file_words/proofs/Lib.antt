@@ -1,1 +1,2 @@
+pub mod ParentSteps
 pub mod Standing

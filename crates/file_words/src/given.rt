@@ -1,60 +1,59 @@
-// The files of words and their names.
-ghost use Rattle.std.specs.Prelude.{◌≡◌, ◌≢◌, [], true, map, is_some, IfOk, Some};
+// The files of words, and what is said in front of them.
+ghost use Rattle.std.specs.Prelude.{◌≡◌, ◌≢◌, [], true, map, is_some, IfOk, OnOk, Some};
 ghost use Rattle.std.specs.String.{string_bytes};
-ghost use Rattle.send_model.specs.Renamed.{AreNewNames};
-ghost use Rattle.word_model.specs.NameWords.{given_from};
+ghost use Rattle.send_model.specs.Overridden.{AreLawfulOverrides};
+ghost use Rattle.program_model.specs.FileWords.{given_in, said_too};
 
-use crate::checking::{gives_name, is_name_word, name_given};
-use part_names::PartNames;
+use crate::checking::{is_name_word, name_given, stands_in_front};
+use crate::parents::parent_given;
+use part_names::{FileOverride, Overrides};
 use std::alloc::{AllocError, Global};
 use std::marker::Model;
 
-/// The files of words in their order, and the names that are given with them.
+/// The files of words in their order, and what is said in front of them.
 #[derive(Debug, Drop)]
 pub struct GivenFiles {
     files: Vec<String>,
-    names: PartNames,
+    overrides: Overrides,
 }
 
 impl Model for GivenFiles {
     ghost use Rattle.std.specs.Prelude.{map};
     ghost use Rattle.std.specs.String.{string_bytes};
-    ghost use Rattle.word_model.specs.NameWords as given;
+    ghost use Rattle.program_model.specs.FileWords as given;
 
     ghost Value = { given.GivenFiles };
 
-    ghost view = { λ g. record { files = map string_bytes g.files.items; names = g.names } };
+    ghost view = { λ g. record { files = map string_bytes g.files.items; overrides = g.overrides } };
 }
 
 impl GivenFiles {
-    /// The files of words that are files with their names.
+    /// The files of words that are files with what is said in front of them.
     ///
     /// # Errors
     /// There is no memory.
     pub fn of(alloc: Global, words: &[String]) -> Result<GivenFiles, AllocError>
-        requires given { is_some (given_from None (map string_bytes words.now)) ≡ true }
+        requires given { is_some (given_in (map string_bytes words.now)) ≡ true }
         ensures given { IfOk result (λ given.
-            given_from None (map string_bytes words.now) ≡ Some given) }
+            given_in (map string_bytes words.now) ≡ Some given) }
         ensures some { words.now ≢ [] → IfOk result (λ given. given.files ≢ []) }
-        ensures fit { IfOk result (λ given. AreNewNames given.names) }
+        ensures lawful { IfOk result (λ given. AreLawfulOverrides given.overrides) }
     {
         let mut files = Vec::new(alloc);
-        let mut names = PartNames::none(alloc);
-        let mut name = None;
+        let mut overrides = Overrides::none(alloc);
+        let mut said = FileOverride::none(alloc);
         for place in 0..words.len() {
             let word = words[place].as_str();
-            if !is_name_word(word) {
-                names.push(name)?;
-                files.push(String::from_str(alloc, word)?)?;
-                name = None;
+            if stands_in_front(word) {
+                say_more(alloc, &mut said, word)?;
             } else {
-                if name.is_some() || !gives_name(word) {
-                    unreachable!()
-                }
-                name = Some(name_given(alloc, word)?);
+                overrides.push(said)?;
+                files.push(String::from_str(alloc, word)?)?;
+                said = FileOverride::none(alloc);
             }
         }
-        Ok(GivenFiles { files, names })
+        overrides.are_given();
+        Ok(GivenFiles { files, overrides })
     }
 
     /// The names of the files.
@@ -64,10 +63,26 @@ impl GivenFiles {
         self.files.as_slice()
     }
 
-    /// The names for the parts in them.
-    pub fn names(&self) -> &PartNames
-        ensures names { result.now ≡ self.now.names }
+    /// What is said in front of them.
+    pub fn overrides(&self) -> &Overrides
+        ensures overrides { result.now ≡ self.now.overrides }
     {
-        &self.names
+        &self.overrides
+    }
+}
+
+// Says what a word says, beside what is said already.
+fn say_more(alloc: Global, said: &mut FileOverride, word: &str) -> Result<(), AllocError>
+    requires more { is_some (said_too said.old word.now) ≡ true }
+    ensures said { OnOk result (said_too said.old word.now ≡ Some said.new) }
+{
+    if is_name_word(word) {
+        let name = name_given(alloc, word)?;
+        said.say_name(name);
+        return Ok(());
+    }
+    match parent_given(word) {
+        Some(parent) => said.say_parent(parent),
+        None => unreachable!(),
     }
 }

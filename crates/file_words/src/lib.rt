@@ -1,8 +1,9 @@
-//! The words of files: which files they name, and which names they give for the parts in them.
+//! The words of files: which files they name, and what they say in front of them.
 #![tactic(auto)]
 
 mod checking;
 mod given;
+mod parents;
 
 pub use checking::are_given;
 pub use given::GivenFiles;

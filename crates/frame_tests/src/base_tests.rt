@@ -138,6 +138,7 @@ const REFUSALS: &[(Refusal, u64, &str)] = &[
     (Refusal::Overlap, 31, "Overlap"),
     (Refusal::NotConsecutive, 35, "NotConsecutive"),
     (Refusal::NotBuilt(16), 36, "NotBuilt"),
+    (Refusal::BadText, 37, "BadText"),
     (Refusal::NoNumber, 38, "NoNumber"),
 ];
 

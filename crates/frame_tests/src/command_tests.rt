@@ -1,4 +1,5 @@
-// What no clause says: that each call succeeds where there is memory, and bytes from another program.
+// What no clause says: that each call succeeds where there is memory, and bytes from another
+// program.
 ghost use Rattle.std.specs.Prelude.{IfOk};
 ghost use Rattle.send_commands.specs.Meaning.{meaning_of};
 ghost use Rattle.send_commands.specs.Writing.{IsWritable};
@@ -185,7 +186,8 @@ fn refusal(version: u32, cmd: u16, body: &[u8]) -> Option<Refusal> {
     }
 }
 
-// The canonical spelling of the command of a number whose frame has this body in version 1, and the place of its data.
+// The canonical spelling of the command of a number whose frame has this body in version 1, and the
+// place of its data.
 fn spelled(alloc: Global, cmd: u16, body: &[u8]) -> Result<(Blob, Option<u64>), Stop> {
     let command = match read(1, cmd, body) {
         Ok(command) => command,

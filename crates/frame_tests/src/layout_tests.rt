@@ -1,4 +1,5 @@
-// What no clause says: that each call succeeds where there is memory, and bytes from another program.
+// What no clause says: that each call succeeds where there is memory, and bytes from another
+// program.
 use crate::frames::{END, WRITE_OF_VERSION_2};
 use crate::same::same;
 use std::process::Abort;
@@ -95,7 +96,8 @@ fn bad_attribute(read: Result<AttrTable<'_>, Refusal>) -> Option<u16> {
     }
 }
 
-// Bodies in version 2, with the place of their data, and the data; and bodies that are refused, with what their refusal keeps.
+// Bodies in version 2, with the place of their data, and the data; and bodies that are refused,
+// with what their refusal keeps.
 const WITH_DATA: &[(&[u8], usize, &[u8])] = &[
     (b"\x0f\x00\x01\x00x\x13\x00hi", 7, b"hi"),
     (b"\x13\x00", 2, b""),

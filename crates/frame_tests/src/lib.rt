@@ -1,5 +1,5 @@
-//! Tests of the calls of `sx_base`, `crc32c_part`, `path_rules`, `tlv_frame`, `send_commands` and `cmd_reader`. Nothing stands here
-//! but tests.
+//! Tests of the calls of `sx_base`, `crc32c_part`, `path_rules`, `tlv_frame`, `send_commands` and
+//! `cmd_reader`. Nothing stands here but tests.
 #![tactic(auto)]
 
 #[cfg(test)]

@@ -68,8 +68,8 @@ fn counted(
     })
 }
 
-// What the tests look at in the next command: its number, its offset and the place of its data; the transaction number if it
-// begins a part, and its version; and whether its frame is canonical.
+// What the tests look at in the next command: its number, its offset and the place of its data; the
+// transaction number if it begins a part, and its version; and whether its frame is canonical.
 #[derive(Clone, Copy)]
 struct Shown {
     place: (u64, u64, u64),

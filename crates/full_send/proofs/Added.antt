@@ -9,8 +9,8 @@ use Rattle.send_model.proofs.Fronts.{nothing_front}
 use Rattle.sx_base.specs.Calls.{Wrote}
 use Rattle.sx_base.specs.Outside.{AppendsPart}
 use Rattle.sx_base.specs.declared.outcome.Outcome.TheVariants as ended
-use Rattle.store_words.specs.declared.ends.StoreEnd.{StoreEnd}
-use Rattle.store_words.specs.declared.ends.StoreEnd.TheVariants as made
+use Rattle.store_commands.specs.declared.ends.StoreEnd.{StoreEnd}
+use Rattle.store_commands.specs.declared.ends.StoreEnd.TheVariants as made
 use Rattle.tree_view.proofs.Texts.{cut_part}
 use Rattle.full_send.specs.Adding.{TextAdded, IsCutBy, Adds, SomeSent, GoesOn}
 

@@ -10,11 +10,11 @@ use Rattle.extent_map.specs.Pieces.{zero_cells, run_cells, piece_cells}
 use Rattle.extent_map.proofs.Layouts.{length-piece}
 use Rattle.inode_commands.specs.Spelled.{spelled_all}
 use Rattle.inode_commands.proofs.Joined.{all_joined}
-use Rattle.store_groups.specs.declared.place.Place.{Place}
-use Rattle.store_groups.specs.Placing.{further}
+use Rattle.group_replay.specs.declared.place.Place.{Place}
+use Rattle.group_replay.specs.Placing.{further}
 use Rattle.store_journal.specs.Standing.{place_byte}
-use Rattle.sent_model.specs.Listing.{held}
-use Rattle.sent_model.specs.Sent.{stretch_commands, ends_in_hole}
+use Rattle.snapshot_model.specs.Listing.{held}
+use Rattle.snapshot_model.specs.Sent.{stretch_commands, ends_in_hole}
 use Rattle.full_send.specs.Held.{held_cell}
 use Rattle.full_send.proofs.Parts.{stretch_of}
 use Rattle.full_send.proofs.HeldStretches.{written, hole_next, end_next, ends_zero, ends_held}

@@ -1,4 +1,5 @@
--- The inodes of a store's subvolume: what commands say of them, and their commands with the bytes of an image.
+-- The inodes of a store's subvolume: what commands say of them, and their commands with the bytes
+-- of an image.
 use Rattle.std.specs.Prelude.{◌≡◌, ℕ, ◌==◌, Bool, true, false, cond, List, [], ◌∷◌, ◌++◌, map, length, Option, None, Some, Ok, is_some, IsTrue, if◌then◌else◌}
 use Rattle.std.specs.Option.{option_map, unwrap_or}
 use Rattle.std.specs.List.{AllByRecursion}
@@ -14,18 +15,18 @@ use Rattle.send_model.specs.Cells.{recelled}
 use Rattle.send_model.specs.Provenance.{inode_with}
 use Rattle.send_model.proofs.CellMaps.{inode_at-cells}
 use Rattle.send_model.proofs.PathLaws.{path_names_short}
-use Rattle.sent_model.specs.Listing.{listed}
-use Rattle.sent_model.specs.HeldStores.{held_at}
-use Rattle.sent_model.specs.Sent.{making, making_commands, listed_commands, contents_commands, setting_commands, inode_commands}
-use Rattle.sent_model.proofs.SentPaths.{walked, walked_there}
+use Rattle.snapshot_model.specs.Listing.{listed}
+use Rattle.snapshot_model.specs.HeldStores.{held_at}
+use Rattle.snapshot_model.specs.Sent.{making, making_commands, listed_commands, contents_commands, setting_commands, inode_commands}
+use Rattle.snapshot_model.proofs.SentPaths.{walked, walked_there}
 use Rattle.inode_commands.specs.Spelled.{IsShortPath}
 use Rattle.inode_commands.specs.Spelled as spelled
 use Rattle.std.specs.Str.{bytes_eq}
 use Rattle.send_model.proofs.LeastPaths.{first_path_there, first_path_is_first}
 use Rattle.path_walk.specs.Passing.{Passed, earlier}
-use Rattle.store_groups.specs.declared.place.Place.{Place}
-use Rattle.store_groups.specs.Kept.{IsKept}
-use Rattle.store_groups.specs.Said.{IsSaid}
+use Rattle.group_replay.specs.declared.place.Place.{Place}
+use Rattle.group_replay.specs.Kept.{IsKept}
+use Rattle.group_replay.specs.Said.{IsSaid}
 use Rattle.store_journal.specs.Reading.{file_cells}
 use Rattle.full_send.specs.Held.{held_cell, with_holes, field_commands}
 

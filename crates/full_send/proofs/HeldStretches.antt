@@ -5,8 +5,8 @@ use Rattle.std.proofs.Common.{refl, sym, ap, subst, ◌∙◌, arith, append_ass
 use Rattle.std.proofs.lemmas.Bool.{eqb-false}
 use Rattle.send_model.specs.Command.{Command}
 use Rattle.extent_map.specs.Pieces.{zero_cells}
-use Rattle.sent_model.specs.Listing.{held}
-use Rattle.sent_model.specs.Sent.{Stretch, onto_stretches, stretches, ends_in_hole, stretch_commands}
+use Rattle.snapshot_model.specs.Listing.{held}
+use Rattle.snapshot_model.specs.Sent.{Stretch, onto_stretches, stretches, ends_in_hole, stretch_commands}
 
 abbrev Cell : Type 0
 Cell = Option ℕ

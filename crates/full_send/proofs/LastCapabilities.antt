@@ -7,12 +7,12 @@ use Rattle.std.proofs.Common.{refl, sym, ap, ◌∙◌}
 use Rattle.send_model.specs.Command.{Command}
 use Rattle.send_model.specs.Map.{Map}
 use Rattle.send_model.specs.Subvolume.{Inode, Subvolume, inode_at, new_directory, first_path, all_paths}
-use Rattle.sent_model.specs.Listing.{listed, paths_of}
-use Rattle.sent_model.specs.Restored.{capability_commands, capabilities}
+use Rattle.snapshot_model.specs.Listing.{listed, paths_of}
+use Rattle.snapshot_model.specs.Restored.{capability_commands, capabilities}
 use Rattle.inode_commands.specs.Spelled.{spelled_all}
 use Rattle.inode_commands.proofs.Joined.{all_joined}
 use Rattle.path_walk.specs.Passing.{Passed, earlier}
-use Rattle.store_groups.specs.declared.place.Place.{Place}
+use Rattle.group_replay.specs.declared.place.Place.{Place}
 use Rattle.full_send.specs.Held.{with_holes}
 use Rattle.full_send.proofs.LastDirectories.{seen, listed_seen}
 use Rattle.full_send.proofs.SentPaths.{root_first}

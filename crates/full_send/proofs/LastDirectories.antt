@@ -11,10 +11,10 @@ use Rattle.send_model.specs.Provenance.{inode_with}
 use Rattle.send_model.specs.Subvolume.{Inode, Subvolume, walk, inode_at, is_directory_kind, new_directory}
 use Rattle.send_model.proofs.CellMaps.{inode_at-cells}
 use Rattle.send_model.proofs.ElementLaws.{all_first, all_rest}
-use Rattle.sent_model.specs.Listing.{listed}
-use Rattle.sent_model.specs.HeldStores.{held_at}
-use Rattle.sent_model.specs.Restored.{finishing, directories_back}
-use Rattle.store_groups.specs.declared.place.Place.{Place}
+use Rattle.snapshot_model.specs.Listing.{listed}
+use Rattle.snapshot_model.specs.HeldStores.{held_at}
+use Rattle.snapshot_model.specs.Restored.{finishing, directories_back}
+use Rattle.group_replay.specs.declared.place.Place.{Place}
 use Rattle.full_send.specs.Held.{with_holes}
 use Rattle.full_send.specs.Directories.{path_passed, paths_passed, directories_in}
 use Rattle.full_send.specs.declared.restoring.Passed.{Passed}

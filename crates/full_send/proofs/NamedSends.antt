@@ -10,27 +10,26 @@ use Rattle.send_model.specs.Store.{Key, Entry, Store, IsStore, find}
 use Rattle.send_model.proofs.PathLaws.{is_name_length}
 use Rattle.send_model.proofs.Sorts.{same_inside}
 use Rattle.store_model.specs.Dues.{complete_named}
-use Rattle.subvol_catalog.specs.Entries.{AreNamed}
-use Rattle.sent_model.specs.HeldStores.{StandsHeld, Form, formed}
-use Rattle.sent_model.specs.Restored.{restored_stream}
-use Rattle.sent_model.specs.Sent.{sent_stream, sent_version}
-use Rattle.sent_model.specs.SentLaws.{IsNew, FileIsReceivedAs}
-use Rattle.sent_model.specs.StoredLaws.{StoredIsReceived}
-use Rattle.sent_model.proofs.Holes.{image_is_one_held}
-use Rattle.sent_model.proofs.StoredSent.{sent_of_stores, restored_of_stores}
+use Rattle.subvol_catalog.specs.Entries.{AreNamed, named}
+use Rattle.snapshot_model.specs.HeldStores.{StandsHeld, Form, formed}
+use Rattle.snapshot_model.specs.Restored.{restored_stream}
+use Rattle.snapshot_model.specs.Sent.{sent_stream, sent_version}
+use Rattle.snapshot_model.specs.SentLaws.{IsNew, FileIsReceivedAs}
+use Rattle.snapshot_model.specs.StoredLaws.{StoredIsReceived}
+use Rattle.snapshot_model.proofs.Holes.{image_is_one_held}
+use Rattle.snapshot_model.proofs.StoredSent.{sent_of_stores, restored_of_stores}
 use Rattle.inode_commands.specs.Spelled.{HasLength}
-use Rattle.store_groups.specs.declared.place.Place.{Place}
-use Rattle.store_groups.specs.Kept.{IsKept, AreKept}
-use Rattle.store_words.specs.declared.ends.StoreEnd.TheVariants as made
-use Rattle.store_words.specs.Naming.{named}
-use Rattle.store_words.proofs.FoundFiles.{IsFoundIn, all_found}
-use Rattle.store_words.proofs.Named.{named_holds}
+use Rattle.group_replay.specs.declared.place.Place.{Place}
+use Rattle.group_replay.specs.Kept.{IsKept, AreKept}
+use Rattle.store_commands.specs.declared.ends.StoreEnd.TheVariants as made
+use Rattle.store_commands.proofs.FoundFiles.{IsFoundIn, all_found}
+use Rattle.store_commands.proofs.Named.{named_holds}
 use Rattle.sx_base.specs.Calls.{Wrote}
 use Rattle.sx_base.specs.declared.outcome.Outcome.TheVariants as ended
 use Rattle.full_send.specs.declared.entries.Order.{Order}
 use Rattle.full_send.specs.declared.entries.Order.TheVariants as order
 use Rattle.full_send.specs.Orders.{form_of, StreamEnds}
-use Rattle.sent_model.specs.Promises.{OfNamed, IsReceivedAnew, IsUnfinished}
+use Rattle.snapshot_model.specs.Promises.{OfNamed, IsReceivedAnew, IsUnfinished}
 
 abbrev Found : Type 0
 Found = Entry (Subvolume (Option ℕ)) × Subvolume (Option ℕ)

@@ -4,8 +4,8 @@ use Rattle.std.proofs.Common.{refl, sym, ap, subst, ◌∙◌, append_assoc, app
 use Rattle.std.proofs.lemmas.List.{take-take, take_all, drop-take, drop-drop, drop_all, length-drop}
 use Rattle.send_model.specs.Command.{Command, Write}
 use Rattle.send_model.specs.Composed.{writes_from}
-use Rattle.sent_model.specs.Sent.{stretch_commands}
-use Rattle.store_words.specs.declared.ends.StoreEnd.{StoreEnd}
+use Rattle.snapshot_model.specs.Sent.{stretch_commands}
+use Rattle.store_commands.specs.declared.ends.StoreEnd.{StoreEnd}
 use Rattle.full_send.specs.Adding.{TextAdded, Adds}
 use Rattle.full_send.proofs.Added.{none_added, added_then, then_adds, stops_early}
 

@@ -1,4 +1,5 @@
--- The commands of a subvolume that is restored, path by path; and which of its paths lead to directories.
+-- The commands of a subvolume that is restored, path by path; and which of its paths lead to
+-- directories.
 use Rattle.std.specs.Prelude.{◌≡◌, ℕ, Bool, true, false, cond, List, [], ◌∷◌, ◌++◌, map, Option, None, Some, Ok, Result, Err, OnOk, IfErr, is_some, IsTrue, if◌then◌else◌}
 use Rattle.std.specs.List.{flat_map, AllByRecursion}
 use Rattle.std.specs.Option.{unwrap_or}
@@ -12,19 +13,19 @@ use Rattle.send_model.specs.Map.{Map, bytes_cmp}
 use Rattle.send_model.specs.Subvolume.{Inode, Subvolume, IsLawful, walk, inode_at, is_directory, passes_inode, is_directory_kind, new_directory, all_paths}
 use Rattle.send_model.proofs.LeastPaths.{Among, all_from_among, entry_found, first_path_there, first_path_is_first}
 use Rattle.send_model.proofs.Stores.{bytes_eq_same}
-use Rattle.sent_model.specs.Listing.{listed, paths_of}
-use Rattle.sent_model.specs.Sent.{making, contents_commands}
-use Rattle.sent_model.specs.Restored.{temporary, has_temporary, finishing, arriving, placed_inode, placed, directories_back, capabilities, restored_edits}
-use Rattle.sent_model.proofs.SentPaths.{walked, walked_there, paths_ordered, path_found_walks}
-use Rattle.sent_model.proofs.SentWalks.{names_path, one_way}
+use Rattle.snapshot_model.specs.Listing.{listed, paths_of}
+use Rattle.snapshot_model.specs.Sent.{making, contents_commands}
+use Rattle.snapshot_model.specs.Restored.{temporary, has_temporary, finishing, arriving, placed_inode, placed, directories_back, capabilities, restored_edits}
+use Rattle.snapshot_model.proofs.SentPaths.{walked, walked_there, paths_ordered, path_found_walks}
+use Rattle.snapshot_model.proofs.SentWalks.{names_path, one_way}
 use Rattle.inode_commands.specs.Spelled.{spelled_all}
 use Rattle.inode_commands.proofs.Joined.{all_joined}
 use Rattle.path_walk.specs.Passing.{Passed, earlier}
 use Rattle.path_walk.proofs.Passes.{root_walks}
-use Rattle.store_groups.specs.declared.place.Place.{Place}
-use Rattle.store_groups.specs.Kept.{IsKept}
-use Rattle.store_words.specs.declared.ends.StoreEnd.{StoreEnd}
-use Rattle.store_words.specs.declared.ends.StoreEnd.TheVariants as made
+use Rattle.group_replay.specs.declared.place.Place.{Place}
+use Rattle.group_replay.specs.Kept.{IsKept}
+use Rattle.store_commands.specs.declared.ends.StoreEnd.{StoreEnd}
+use Rattle.store_commands.specs.declared.ends.StoreEnd.TheVariants as made
 use Rattle.sx_base.specs.Calls.{Wrote}
 use Rattle.sx_base.specs.declared.outcome.Outcome.TheVariants as ended
 use Rattle.full_send.specs.Held.{held_cell, with_holes}

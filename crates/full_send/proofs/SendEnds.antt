@@ -13,28 +13,28 @@ use Rattle.store_model.proofs.CellRuns.{made_all-cells, all_put_same}
 use Rattle.store_model.specs.Dues.{complete_named}
 use Rattle.store_model.specs.Answers.{Missing}
 use Rattle.store_model.proofs.OneStore.{never_both}
-use Rattle.sent_model.specs.Listing as listing
-use Rattle.sent_model.specs.HeldStores.{StandsHeld, held_at, ByHeld, Form, formed, send_output, SendBefore, SendAnswers}
-use Rattle.sent_model.proofs.Holes.{held_are_bytes, image_is_one_held, places_are_held}
+use Rattle.snapshot_model.specs.Listing as listing
+use Rattle.snapshot_model.specs.HeldStores.{StandsHeld, held_at, ByHeld, Form, formed, send_output, SendBefore, SendAnswers}
+use Rattle.snapshot_model.proofs.Holes.{held_are_bytes, image_is_one_held, places_are_held}
 use Rattle.sx_base.specs.Disk.{Pending}
 use Rattle.sx_base.specs.declared.outcome.Outcome.TheVariants as ended
 use Rattle.group_log.specs.declared.stops.LogStop.TheVariants as log
 use Rattle.group_log.proofs.GatedGroups.{has_closed}
-use Rattle.store_groups.specs.declared.place.Place.{Place}
-use Rattle.store_groups.specs.declared.stops.StoreStop.{StoreStop}
-use Rattle.store_groups.specs.declared.stops.StoreStop.TheVariants as stop
-use Rattle.store_groups.specs.Stopping.{IfLog, IsNoRefusal}
+use Rattle.group_replay.specs.declared.place.Place.{Place}
+use Rattle.group_replay.specs.declared.stops.StoreStop.{StoreStop}
+use Rattle.group_replay.specs.declared.stops.StoreStop.TheVariants as stop
+use Rattle.group_replay.specs.Stopping.{IfLog, IsNoRefusal}
 use Rattle.store_journal.specs.Shown.{StoreState}
 use Rattle.store_journal.specs.Opening.{OpenSays, IsOpenStop, HoldsSome}
 use Rattle.store_journal.specs.Holding.{bodies_of}
-use Rattle.store_groups.specs.Placing.{further}
-use Rattle.store_groups.specs.Taking.{as_runs}
-use Rattle.store_words.specs.declared.ends.StoreEnd.{StoreEnd}
-use Rattle.store_words.specs.declared.ends.StoreEnd.TheVariants as made
-use Rattle.store_words.specs.Ending.{answer_of, end_by}
-use Rattle.store_words.specs.Naming.{named}
-use Rattle.store_words.proofs.Named.{complete_there, not_there, not_complete, named_same}
-use Rattle.store_words.proofs.Opened.{nothing_in_front}
+use Rattle.group_replay.specs.Placing.{further}
+use Rattle.group_replay.specs.Taking.{as_runs}
+use Rattle.store_commands.specs.declared.ends.StoreEnd.{StoreEnd}
+use Rattle.store_commands.specs.declared.ends.StoreEnd.TheVariants as made
+use Rattle.store_commands.specs.Ending.{answer_of, end_by}
+use Rattle.subvol_catalog.specs.Entries.{named}
+use Rattle.store_commands.proofs.Named.{complete_there, not_there, not_complete, named_same}
+use Rattle.store_commands.proofs.Opened.{nothing_in_front}
 use Rattle.full_send.specs.Adding.{IsCutBy}
 use Rattle.full_send.specs.Held.{with_holes, store_with_holes}
 use Rattle.full_send.specs.Orders.{StreamEnds}

@@ -8,13 +8,13 @@ use Rattle.send_model.specs.Command.{Command}
 use Rattle.send_model.specs.Map.{Map}
 use Rattle.send_model.specs.Subvolume.{Subvolume, IsLawful, all_paths}
 use Rattle.send_model.proofs.LeastPaths.{NotAfter, first_path_there}
-use Rattle.sent_model.specs.Listing.{listed, listing, paths_of}
-use Rattle.sent_model.specs.Sent.{listed_commands, inode_commands, sent_edits}
+use Rattle.snapshot_model.specs.Listing.{listed, listing, paths_of}
+use Rattle.snapshot_model.specs.Sent.{listed_commands, inode_commands, sent_edits}
 use Rattle.inode_commands.specs.Spelled.{spelled_all}
 use Rattle.inode_commands.proofs.Joined.{all_joined}
 use Rattle.path_walk.specs.Passing.{Passed}
 use Rattle.path_walk.proofs.Passes.{root_walks}
-use Rattle.store_groups.specs.declared.place.Place.{Place}
+use Rattle.group_replay.specs.declared.place.Place.{Place}
 use Rattle.full_send.specs.Held.{with_holes}
 use Rattle.full_send.proofs.HeldInodes.{listed_own}
 use Rattle.full_send.proofs.Walking.{Reached, so_far, Goes, all_paths_are}

@@ -13,8 +13,8 @@ use Rattle.send_model.specs.Subvolume.{Subvolume, IsLawful, walk}
 use Rattle.send_model.proofs.LeastPaths.{Among, found_entry, entry_found}
 use Rattle.send_model.proofs.MapLaws.{T_left, T_right, is_less}
 use Rattle.shared_map.specs.Sought.{entries_above, entry_after}
-use Rattle.sent_model.specs.Listing.{paths_of}
-use Rattle.sent_model.proofs.SentPaths.{paths_ordered, walked_path_found, path_found_walks, entry_below, among_end}
+use Rattle.snapshot_model.specs.Listing.{paths_of}
+use Rattle.snapshot_model.proofs.SentPaths.{paths_ordered, walked_path_found, path_found_walks, entry_below, among_end}
 use Rattle.path_walk.specs.Passing.{Passed, StepsOn}
 use Rattle.path_walk.proofs.Passes.{root_walks}
 use Rattle.full_send.specs.Versions.{is_flagged, any_flagged}

@@ -7,8 +7,8 @@ use Rattle.std.proofs.lemmas.List.{map-append, take-append-drop, length-take, le
 use Rattle.std.proofs.lemmas.Nat.{div-add-mod'}
 use Rattle.send_model.specs.Command.{Command, Write}
 use Rattle.send_model.specs.Composed.{writes_from}
-use Rattle.sent_model.specs.Listing.{held}
-use Rattle.sent_model.specs.Sent.{Stretch, onto_stretches, stretches, stretch_commands}
+use Rattle.snapshot_model.specs.Listing.{held}
+use Rattle.snapshot_model.specs.Sent.{Stretch, onto_stretches, stretches, stretch_commands}
 use Rattle.full_send.proofs.HeldStretches.{written, itself}
 use Rattle.full_send.proofs.Parts.{first_write}
 

@@ -17,15 +17,15 @@ use Rattle.send_model.specs.Subvolume.{Inode, Subvolume, new_directory, inode_at
 use Rattle.send_model.specs.Cells.{recelled}
 use Rattle.send_model.proofs.CellMaps.{reinode, inode_at-cells}
 use Rattle.send_model.proofs.Fronts.{is_front}
-use Rattle.sent_model.specs.HeldStores.{held_at}
-use Rattle.sent_model.specs.Listing.{Listed, listed, listing, paths_of}
-use Rattle.sent_model.specs.Restored.{restored, restored_edits, restored_stream}
-use Rattle.sent_model.specs.Sent.{sent, sent_edits, sent_stream, sent_version}
+use Rattle.snapshot_model.specs.HeldStores.{held_at}
+use Rattle.snapshot_model.specs.Listing.{Listed, listed, listing, paths_of}
+use Rattle.snapshot_model.specs.Restored.{restored, restored_edits, restored_stream}
+use Rattle.snapshot_model.specs.Sent.{sent, sent_edits, sent_stream, sent_version}
 use Rattle.inode_commands.specs.Spelled.{spelled_all}
 use Rattle.inode_commands.proofs.Joined.{all_joined}
-use Rattle.store_groups.specs.declared.place.Place.{Place}
-use Rattle.store_words.specs.declared.ends.StoreEnd.{StoreEnd}
-use Rattle.store_words.specs.declared.ends.StoreEnd.TheVariants as made
+use Rattle.group_replay.specs.declared.place.Place.{Place}
+use Rattle.store_commands.specs.declared.ends.StoreEnd.{StoreEnd}
+use Rattle.store_commands.specs.declared.ends.StoreEnd.TheVariants as made
 use Rattle.sx_base.specs.Calls.{Wrote}
 use Rattle.sx_base.specs.declared.outcome.Outcome.TheVariants as ended
 use Rattle.full_send.specs.Adding.{TextAdded, IsCutBy, Adds, StopCaused}

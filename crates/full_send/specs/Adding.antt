@@ -1,12 +1,13 @@
--- Bytes that are added to those that wait: what of them is written, and how that stops. This program's own.
+-- Bytes that are added to those that wait: what of them is written, and how that stops. This
+-- program's own.
 use Rattle.std.specs.Prelude.{◌≡◌, ⊤, ℕ, List, [], ◌++◌, Option, Result, Ok, Err}
 use Rattle.std.specs.Io.KnownBytes.{Appends}
 use Rattle.send_model.specs.Headline.{IsFrontOf, IsProperFrontOf}
 use Rattle.sx_base.specs.Calls.{Wrote}
 use Rattle.sx_base.specs.Outside.{AppendsPart}
 use Rattle.sx_base.specs.declared.outcome.Outcome.TheVariants as ended
-use Rattle.store_words.specs.declared.ends.StoreEnd.{StoreEnd}
-use Rattle.store_words.specs.declared.ends.StoreEnd.TheVariants as made
+use Rattle.store_commands.specs.declared.ends.StoreEnd.{StoreEnd}
+use Rattle.store_commands.specs.declared.ends.StoreEnd.TheVariants as made
 
 -- A text came behind the bytes that waited; some of all is written, and the rest waits.
 pub record TextAdded (text old new : List ℕ) (taken_old taken_now : Option (List ℕ)) : Type 0 where
@@ -14,7 +15,8 @@ pub record TextAdded (text old new : List ℕ) (taken_old taken_now : Option (Li
   pub appends : Appends taken_old taken_now sent
   pub bytes_are : sent ++ new ≡ old ++ text
 
--- What is written of some bytes where it stops so: a front part, and not all where the output failed.
+-- What is written of some bytes where it stops so: a front part, and not all where the output
+-- failed.
 abbrev pub IsCutBy : StoreEnd → List ℕ → List ℕ → Type 0
 IsCutBy (made.Ends ended.OutputFault) all written = IsProperFrontOf all written
 IsCutBy (made.Ends ended.NoMemory) all written = IsFrontOf all written
@@ -33,22 +35,30 @@ IsCutBy (made.StoreThere size) all written = ⊥
 IsCutBy (made.Damaged group stored computed) all written = ⊥
 
 -- The text was added, or it stopped, and a front part of all that there was is written.
-abbrev pub Adds : (text old new : List ℕ) (taken_old taken_now : Option (List ℕ)) → Result (Unit {0}) StoreEnd → Type 0
+abbrev pub Adds : (text old new : List ℕ) (taken_old taken_now : Option (List ℕ))
+    → Result (Unit {0}) StoreEnd → Type 0
 Adds text old new taken_old taken_now (Ok done) = TextAdded text old new taken_old taken_now
-Adds text old new taken_old taken_now (Err end) = Wrote taken_old taken_now (IsCutBy end (old ++ text))
+Adds text old new taken_old taken_now (Err end) =
+    Wrote taken_old taken_now (IsCutBy end (old ++ text))
 
 -- Of what waits some is written and the rest is kept, or the output failed.
-abbrev pub SomeSent : (old new : List ℕ) (taken_old taken_now : Option (List ℕ)) → Result (Unit {0}) StoreEnd → Type 0
+abbrev pub SomeSent : (old new : List ℕ) (taken_old taken_now : Option (List ℕ))
+    → Result (Unit {0}) StoreEnd → Type 0
 SomeSent old new taken_old taken_now (Ok done) = TextAdded [] old new taken_old taken_now
-SomeSent old new taken_old taken_now (Err end) = (end ≡ made.Ends ended.OutputFault) × AppendsPart taken_old taken_now old
+SomeSent old new taken_old taken_now (Err end) =
+    (end ≡ made.Ends ended.OutputFault) × AppendsPart taken_old taken_now old
 
 -- What was to be added was, and some is written. Or there was no memory for it, and nothing is.
-abbrev pub GoesOn : {E : Type 0} → Result (Unit {0}) E → (old new : List ℕ) (taken_old taken_now : Option (List ℕ)) → Result (Unit {0}) StoreEnd → Type 0
+abbrev pub GoesOn : {E : Type 0} → Result (Unit {0}) E
+    → (old new : List ℕ) (taken_old taken_now : Option (List ℕ)) → Result (Unit {0}) StoreEnd
+    → Type 0
 GoesOn (Ok added) old new taken_old taken_now result = SomeSent old new taken_old taken_now result
 GoesOn (Err failed) old new taken_old taken_now (Ok done) = ⊥
-GoesOn (Err failed) old new taken_old taken_now (Err end) = (end ≡ made.Ends ended.NoMemory) × Appends taken_old taken_now []
+GoesOn (Err failed) old new taken_old taken_now (Err end) =
+    (end ≡ made.Ends ended.NoMemory) × Appends taken_old taken_now []
 
--- Why it stops: there is no memory, or the output or the store's device failed, for which there is this cause.
+-- Why it stops: there is no memory, or the output or the store's device failed, for which there is
+-- this cause.
 abbrev pub StopCaused : (store_rose out_rose : Type 0) → StoreEnd → Type 0
 StopCaused store_rose out_rose (made.Ends ended.OutputFault) = out_rose
 StopCaused store_rose out_rose (made.Ends ended.NoMemory) = ⊤

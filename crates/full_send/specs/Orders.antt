@@ -1,10 +1,10 @@
 -- In which order and spelling a subvolume is written, and how writing it ends. This program's own.
 use Rattle.std.specs.Prelude.{◌≡◌, List, ℕ, Result, Ok, Err}
 use Rattle.send_model.specs.Headline.{IsProperFrontOf}
-use Rattle.sent_model.specs.HeldStores.{Form}
-use Rattle.sent_model.specs.Sent.{sent_stream}
-use Rattle.sent_model.specs.Restored.{restored_stream}
-use Rattle.store_words.specs.declared.ends.StoreEnd.{StoreEnd}
+use Rattle.snapshot_model.specs.HeldStores.{Form}
+use Rattle.snapshot_model.specs.Sent.{sent_stream}
+use Rattle.snapshot_model.specs.Restored.{restored_stream}
+use Rattle.store_commands.specs.declared.ends.StoreEnd.{StoreEnd}
 use Rattle.full_send.specs.Adding.{IsCutBy}
 use Rattle.full_send.specs.declared.entries.Order.{Order}
 use Rattle.full_send.specs.declared.entries.Order.TheVariants as order

@@ -3,7 +3,7 @@ use Rattle.std.specs.Prelude.{ℕ, ◌==◌, Bool, not, List, if◌then◌else�
 use Rattle.std.specs.List.{list_any}
 use Rattle.send_model.specs.Map.{Map}
 use Rattle.send_model.specs.Subvolume.{Subvolume}
-use Rattle.sent_model.specs.Listing.{listed, paths_of}
+use Rattle.snapshot_model.specs.Listing.{listed, paths_of}
 
 -- An inode has a flag.
 abbrev pub is_flagged : {C : Type 0} → Subvolume C → ℕ → Bool

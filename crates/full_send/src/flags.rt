@@ -1,7 +1,7 @@
 // The version of a stream: whether a flag is sent.
 ghost use Rattle.std.specs.Prelude.{◌≡◌, ◌||◌, IfOk};
 ghost use Rattle.send_model.specs.Subvolume.{IsLawful};
-ghost use Rattle.sent_model.specs.Listing.{paths_of};
+ghost use Rattle.snapshot_model.specs.Listing.{paths_of};
 ghost use Rattle.full_send.specs.Versions.{is_flagged, any_flagged, version_for};
 
 use extent_map::Origin;
@@ -12,8 +12,8 @@ use std::alloc::{AllocError, Global};
 // The number of the root of each subvolume.
 pub(crate) const ROOT: u64 = 256;
 
-// The version that can say all commands of a subvolume: 2 where a path leads to an inode with a flag, else 1. Fails for want of memory
-// alone.
+// The version that can say all commands of a subvolume: 2 where a path leads to an inode with a
+// flag, else 1. Fails for want of memory alone.
 pub(crate) fn version_of<O: Origin>(alloc: Global, tree: &Tree<O>) -> Result<u32, AllocError>
     requires lawful { IsLawful tree.now }
     ensures { IfOk result (λ version. version ≡ version_for tree.now) }
@@ -44,7 +44,7 @@ fn some_flags<O: Origin>(alloc: Global, tree: &Tree<O>) -> Result<bool, AllocErr
 }
 
 // Whether an inode has a flag.
-#[tactic(auto, unfolding(sent_model::specs::Listing::listed))]
+#[tactic(auto, unfolding(snapshot_model::specs::Listing::listed))]
 fn has_flags<O: Origin>(tree: &Tree<O>, ino: u64) -> bool
     ensures { result ≡ is_flagged tree.now ino }
 {

@@ -6,7 +6,6 @@ mod contents;
 mod ends;
 mod entries;
 mod flags;
-mod naming;
 mod pending;
 mod places;
 mod restoring;

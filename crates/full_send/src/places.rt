@@ -1,6 +1,7 @@
-// What is written at a time: an inode at a path, the path that was passed last, and some bytes of a file.
+// What is written at a time: an inode at a path, the path that was passed last, and some bytes of a
+// file.
+use group_replay::Place;
 use path_walk::Paths;
-use store_groups::Place;
 
 // A path, and the number of the inode that it leads to.
 #[derive(Clone, Copy)]

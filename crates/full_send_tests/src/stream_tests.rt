@@ -5,7 +5,7 @@ use disk_model::{FlakyDisk, MemDisk};
 use full_send::{restore_entry, send_entry};
 use std::alloc::Global;
 use std::test::Fail;
-use store_words::StoreEnd;
+use store_commands::StoreEnd;
 use sx_base::{Disk, MemSink, Outcome};
 
 const DONE: StoreEnd = StoreEnd::Ends(Outcome::Done);

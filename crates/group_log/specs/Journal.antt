@@ -1,5 +1,5 @@
--- When a disk fits what a log keeps of it. Of a disk that tells nothing only the size has to fit. The limit of a log is a size
--- that a disk can have, and so is each place in a group.
+-- When a disk fits what a log keeps of it. Of a disk that tells nothing only the size has to fit.
+-- The limit of a log is a size that a disk can have, and so is each place in a group.
 use Rattle.std.specs.Prelude.{◌≡◌, ◌≢◌, ℕ, ◌+◌, ◌^◌, ◌<◌, ◌≤◌, Option, Some, None, List, [], ◌∷◌, ◌++◌, length}
 use Rattle.std.specs.List.{AllByRecursion}
 use Rattle.std.specs.Int.{w64, to_le_bytes}
@@ -25,8 +25,8 @@ pub record IsAtRest (len : ℕ) (log : LogState) : Type 0 where
   pub whole : log.gate < log.size
   pub bounded : log.limit < 2 ^ 63
 
--- A group is in progress and not prepared. The next append writes at the end of the disk, and there is room
--- for the checksum and the next gate.
+-- A group is in progress and not prepared. The next append writes at the end of the disk, and there
+-- is room for the checksum and the next gate.
 pub record IsInProgress (len : ℕ) (log : LogState) : Type 0 where
   pub size : len ≡ log.size
   pub stage : log.stage ≡ InProgress
@@ -59,7 +59,8 @@ pub record Reads (header : Header) (bodies : List (List ℕ)) (log : LogState) (
   pub bytes : seen ≡ front_of header bodies ++ rest
   pub stable : pending ≡ settled seen
 
--- Behind the groups stands a closed gate, and every image that a crash may leave has the groups and this gate.
+-- Behind the groups stands a closed gate, and every image that a crash may leave has the groups and
+-- this gate.
 pub record Rests (header : Header) (bodies : List (List ℕ)) (log : LogState) (seen : List ℕ) (pending : Pending) : Type 0 where
   pub behind : IsBehind header bodies log
   pub gate : ℕ
@@ -68,8 +69,8 @@ pub record Rests (header : Header) (bodies : List (List ℕ)) (log : LogState) (
   pub bytes : seen ≡ front_of header bodies ++ gate ∷ rest
   pub stable : IsStableFront (front_of header bodies ++ gate ∷ []) pending
 
--- So too while a group is in progress into which these bytes were put, behind eight bytes for its length. The log keeps
--- their checksum.
+-- So too while a group is in progress into which these bytes were put, behind eight bytes for its
+-- length. The log keeps their checksum.
 pub record Grows (header : Header) (bodies : List (List ℕ)) (body : List ℕ) (log : LogState) (seen : List ℕ) (pending : Pending) : Type 0 where
   pub behind : IsBehind header bodies log
   pub sum : log.sum ≡ crc_of 0 body
@@ -80,7 +81,8 @@ pub record Grows (header : Header) (bodies : List (List ℕ)) (body : List ℕ) 
   pub bytes : seen ≡ front_of header bodies ++ gate ∷ (space ++ body)
   pub stable : IsStableFront (front_of header bodies ++ gate ∷ []) pending
 
--- A group with this body stands whole behind its closed gate, with a closed gate behind it, and all is stable.
+-- A group with this body stands whole behind its closed gate, with a closed gate behind it, and all
+-- is stable.
 pub record IsReady (header : Header) (bodies : List (List ℕ)) (body : List ℕ) (log : LogState) (seen : List ℕ) (pending : Pending) : Type 0 where
   pub behind : IsBehind header bodies log
   pub gate : ℕ
@@ -102,7 +104,8 @@ abbrev pub Finds : Header → List (List ℕ) → LogState → List ℕ → Pend
 Finds header bodies log seen pending None = Rests header bodies log seen pending
 Finds header bodies log seen pending (Some place) = IsNext header bodies log seen pending place
 
--- At the closed gate the log rests, and else it goes on behind the group that it found, which has the next number.
+-- At the closed gate the log rests, and else it goes on behind the group that it found, which has
+-- the next number.
 abbrev pub GoesOn : ℕ → LogState → LogState → Option GroupPlace → Type 0
 GoesOn len old new None = (new ≡ resting old) × IsAtRest len new
 GoesOn len old new (Some place) = (new ≡ past_group old place.len) × IsReading len new × (place.number ≡ old.groups + 1) × (place.at ≡ old.gate + 9)

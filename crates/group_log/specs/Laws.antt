@@ -2,7 +2,8 @@
 use Rattle.std.specs.Prelude.{◌≡◌, ℕ, List}
 use Rattle.store_model.specs.Image.{Header, HasGroups, HasFault}
 
--- Bytes are the image of one journal: there are not two headers, or two lists of groups, whose image they are.
+-- Bytes are the image of one journal: there are not two headers, or two lists of groups, whose
+-- image they are.
 abbrev pub ImageIsOneJournal : Type 0
 ImageIsOneJournal = (image : List ℕ) (m n : Header) (xs ys : List (List ℕ)) → HasGroups m xs image → HasGroups n ys image → (m ≡ n) × (xs ≡ ys)
 

@@ -1,13 +1,14 @@
--- What a log is seen as, and what becomes of that in each of its calls, whether or not the disk tells.
+-- What a log is seen as, and what becomes of that in each of its calls, whether or not the disk
+-- tells.
 use Rattle.std.specs.Prelude.{ℕ, ◌+◌, ◌-◌, List, length}
 use Rattle.send_model.specs.Checksum.{crc_of}
 use Rattle.store_model.specs.Image.{reserve}
 use Rattle.group_log.specs.declared.journal.Stage.{Stage}
 use Rattle.group_log.specs.declared.journal.Stage.TheVariants.{Reading, AtRest, InProgress, Prepared}
 
--- The number of the format and the greatest size, by the header; the place of the gate behind the groups, and how many
--- groups these are; the size of the disk; the checksum of what was put into the group in progress; and how far the log
--- is.
+-- The number of the format and the greatest size, by the header; the place of the gate behind the
+-- groups, and how many groups these are; the size of the disk; the checksum of what was put into
+-- the group in progress; and how far the log is.
 pub record LogState : Type 0 where
   pub format : ℕ
   pub limit : ℕ

@@ -1,6 +1,6 @@
-// The log of a store: groups behind a header, each behind a gate byte. The closed gate at the end is stable before
-// anything is written behind it, and it is opened by a write of its own, after all that it guards is stable. The
-// format is this program's own.
+// The log of a store: groups behind a header, each behind a gate byte. The closed gate at the end
+// is stable before anything is written behind it, and it is opened by a write of its own, after all
+// that it guards is stable. The format is this program's own.
 ghost use Rattle.std.specs.Prelude.{◌≡◌, ◌⊎◌, IfSome, IfNone};
 ghost use Rattle.store_model.specs.Image.{start_of};
 
@@ -10,8 +10,8 @@ use crc32c_part::update;
 use std::marker::Model;
 use sx_base::Disk;
 
-/// The place of a group on the disk: its number, counted from 1, and where its body begins and how long it is, in
-/// bytes. The body of a new group ends with the checksum of what stands before it.
+/// The place of a group on the disk: its number, counted from 1, and where its body begins and how
+/// long it is, in bytes. The body of a new group ends with the checksum of what stands before it.
 #[derive(Debug, Clone, Copy, PartialEq, Eq)]
 pub struct GroupPlace {
     pub number: u64,
@@ -85,14 +85,16 @@ impl Log {
     ghost use Rattle.group_log.specs.State.{begun, appended, prepared, published, abandoned};
     ghost use Rattle.group_log.specs.Journal.{IsReading, IsAtRest, IsInProgress, IsPrepared, Reads, Rests, Grows, IsReady, Finds, GoesOn, IsOpened};
 
-    /// Makes a new store on an empty disk: a header of format 2 with the usual limit and a closed gate, both stable.
-    /// `StoreThere` exactly where the size is not 0, and then the disk stays as it was at every moment; `DiskFault`.
+    /// Makes a new store on an empty disk: a header of format 2 with the usual limit and a closed
+    /// gate, both stable. `StoreThere` exactly where the size is not 0, and then the disk stays as
+    /// it was at every moment; `DiskFault`.
     pub fn create<D: Disk>(disk: &mut D) -> Result<(), LogStop>
         ensures made { D.tells → OnOk result (D.seen disk.new ≡ header_of usual_header ++ 0 ∷ []) }
         ensures durable { D.tells → OnOk result (D.pending disk.new ≡ settled (D.seen disk.new)) }
         ensures len { OnOk result (D.len disk.new ≡ 21) }
 
-        // On an empty disk it stops only where the disk failed, and leaves no more than a new store.
+        // On an empty disk it stops only where the disk failed, and leaves no more than a new
+        // store.
         ensures empty { D.len disk.old ≡ 0 →
             IfErr result (IsFault (Rose (D.faults disk.old) (D.faults disk.new))) }
         ensures short { D.len disk.old ≡ 0 → D.len disk.new ≤ 21 }
@@ -119,8 +121,9 @@ impl Log {
         Ok(())
     }
 
-    /// Opens a log: a sync, so that a crash leaves what is read from here on, and then the header. `NotStore` for
-    /// group 0 exactly where there is no whole and right header of format 1 or 2; `DiskFault`.
+    /// Opens a log: a sync, so that a crash leaves what is read from here on, and then the header.
+    /// `NotStore` for group 0 exactly where there is no whole and right header of format 1 or 2;
+    /// `DiskFault`.
     pub fn open<D: Disk>(disk: &mut D) -> Result<Log, LogStop>
         ensures reading { IfOk result (IsReading (D.len disk.new)) }
         ensures first { IfOk result (λ log. (log.gate ≡ 20) × (log.groups ≡ 0)) }
@@ -175,8 +178,8 @@ impl Log {
         self.size
     }
 
-    /// The place of the next group, or `None` at the closed gate and after it. `NotStore` exactly where a group is
-    /// cut short; `DiskFault`.
+    /// The place of the next group, or `None` at the closed gate and after it. `NotStore` exactly
+    /// where a group is cut short; `DiskFault`.
     pub fn next<D: Disk>(&mut self, disk: &mut D) -> Result<Option<GroupPlace>, LogStop>
         requires { D.len disk.old ≡ self.old.size }
         ensures ok { self.old.stage ≡ Reading →
@@ -257,8 +260,9 @@ impl Log {
         Ok(())
     }
 
-    /// Starts a group behind the last one, and cuts off what an abandoned one left. `LogFull` exactly where the
-    /// place of the closed gate, 9 and the reserve of 5 are above the limit; `DiskFault`.
+    /// Starts a group behind the last one, and cuts off what an abandoned one left. `LogFull`
+    /// exactly where the place of the closed gate, 9 and the reserve of 5 are above the limit;
+    /// `DiskFault`.
     pub fn body<D: Disk>(&mut self, disk: &mut D) -> Result<(), LogStop>
         requires { IsAtRest (D.len disk.old) self.old }
         ensures begun { OnOk result (self.new ≡ begun self.old) }
@@ -303,8 +307,8 @@ impl Log {
         self.size
     }
 
-    /// Puts bytes into the group in progress, and says where the first of them stands. `LogFull` exactly where the
-    /// end, their number and the reserve of 5 are above the limit; `DiskFault`.
+    /// Puts bytes into the group in progress, and says where the first of them stands. `LogFull`
+    /// exactly where the end, their number and the reserve of 5 are above the limit; `DiskFault`.
     pub fn append<D: Disk>(&mut self, disk: &mut D, bytes: &[u8]) -> Result<u64, LogStop>
         requires { IsInProgress (D.len disk.old) self.old }
         ensures place { IfOk result (λ at. at ≡ self.old.size) }
@@ -344,8 +348,8 @@ impl Log {
         Ok(at)
     }
 
-    /// Writes the length of the group in progress, behind it the checksum of all that was put into it and the next
-    /// closed gate, and syncs. `DiskFault` only.
+    /// Writes the length of the group in progress, behind it the checksum of all that was put into
+    /// it and the next closed gate, and syncs. `DiskFault` only.
     pub fn prepare<D: Disk>(&mut self, disk: &mut D) -> Result<(), LogStop>
         requires { IsInProgress (D.len disk.old) self.old }
         ensures prepared { OnOk result (self.new ≡ prepared self.old) }

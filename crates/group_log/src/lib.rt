@@ -1,4 +1,5 @@
-//! The journal of a store: groups behind gates, which a loss of power leaves whole or not there at all.
+//! The journal of a store: groups behind gates, which a loss of power leaves whole or not there at
+//! all.
 #![tactic(auto)]
 
 mod filling;

@@ -11,10 +11,12 @@ pub enum LogStop {
     /// The disk failed in the call.
     #[error("the disk failed")]
     DiskFault,
-    /// The bytes are no image of a store; the fault is that of this group, counted from 1, or 0 for the header.
+    /// The bytes are no image of a store; the fault is that of this group, counted from 1, or 0 for
+    /// the header.
     #[error("not a store: group {group}")]
     NotStore { group: u64 },
-    /// Bytes wanted at this end, with a checksum and the next gate behind them, would go past the limit.
+    /// Bytes wanted at this end, with a checksum and the next gate behind them, would go past the
+    /// limit.
     #[error("log full: {end} {wanted} {limit}")]
     LogFull { end: u64, wanted: u64, limit: u64 },
     /// There is something on the disk already, of this size.

@@ -62,7 +62,8 @@ const EDITS_A_2: Piece = Bytes(b"AAAAAAAAAAAAAAAA\x02");
 
 const EDITS_B: Piece = Bytes(b"BBBBBBBBBBBBBBBB\x01");
 
-// Groups that are right: the heads, a file in each subvolume, and the name of the first that is dropped.
+// Groups that are right: the heads, a file in each subvolume, and the name of the first that is
+// dropped.
 const MARK_A: Group = (MARK, &[Frame(SUBVOL, HEAD_A)]);
 
 const MARK_B: Group = (MARK, &[Frame(SNAPSHOT, HEAD_B)]);

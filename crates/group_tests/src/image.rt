@@ -3,9 +3,9 @@ use clone_resolve::EditCore;
 use crc32c_part::update;
 use disk_model::MemDisk;
 use group_log::Log;
+use group_replay::{Place, Window, take_group};
 use std::alloc::{AllocError, Global};
 use std::test::Fail;
-use store_groups::{Place, Window, take_group};
 use sx_base::Disk;
 
 // The number of the command that makes a file, and the attribute of its path.

@@ -1,4 +1,4 @@
-//! Tests of `store_groups`. Nothing stands here but tests.
+//! Tests of `group_replay`. Nothing stands here but tests.
 #![tactic(auto)]
 
 #[cfg(test)]

@@ -1,4 +1,5 @@
-// What no clause says: that groups are taken where there is memory, also such as are longer than a window.
+// What no clause says: that groups are taken where there is memory, also such as are longer than a
+// window.
 use crate::image::{edits, header, mark, put_attribute, put_frame, put_group, put_sealed, read};
 use crate::same::same;
 use std::alloc::{AllocError, Global};

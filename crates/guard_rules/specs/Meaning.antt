@@ -14,7 +14,8 @@ spec_meant (made.Commands most) = meant.MostCommands most
 spec_meant made.NoDevices = meant.NoDevices
 spec_meant (made.End most) = meant.MostEnd most
 
--- A guard after it looked at a command: it has counted a command that it allows, and is as before after one that it refuses.
+-- A guard after it looked at a command: it has counted a command that it allows, and is as before
+-- after one that it refuses.
 abbrev pub after_look : Guard → Command → Guard
 after_look guard command = if guard_refuses guard command then guard else guard_after guard command
 
@@ -22,7 +23,7 @@ after_look guard command = if guard_refuses guard command then guard else guard_
 abbrev pub used_at : List Guard → ℕ → ℕ
 used_at guards place = (slice_index_or guards place (new_guard meant.NoDevices)).used
 
--- The place of the first guard that refuses a command, or none: with what that guard has counted, which the command does not
--- change, this is the refusal of the definitions.
+-- The place of the first guard that refuses a command, or none: with what that guard has counted,
+-- which the command does not change, this is the refusal of the definitions.
 abbrev pub IsRefusedAt : List Guard → List Guard → Command → Option ℕ → Type 0
 IsRefusedAt before now command result = guarded before command ≡ option_map (λ place. Guarded place (used_at now place)) result

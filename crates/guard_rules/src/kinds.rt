@@ -9,6 +9,7 @@ pub enum GuardSpec {
     Commands(u64),
     /// No MKNOD.
     NoDevices,
-    /// No WRITE of a byte or more, CLONE or TRUNCATE that ends above this place of its file, counted in bytes.
+    /// No WRITE of a byte or more, CLONE or TRUNCATE that ends above this place of its file,
+    /// counted in bytes.
     End(u64),
 }

@@ -1,5 +1,6 @@
-//! Guards: limits that whoever receives streams sets on them. Each looks at every command before the command does anything,
-//! and the first that refuses one ends the run. Nothing here takes memory.
+//! Guards: limits that whoever receives streams sets on them. Each looks at every command before
+//! the command does anything, and the first that refuses one ends the run. Nothing here takes
+//! memory.
 #![tactic(auto)]
 
 mod any_guard;

@@ -133,7 +133,8 @@ impl Guard for DeviceGuard {
     }
 }
 
-/// Allows no WRITE of a byte or more, CLONE or TRUNCATE that ends above a place, and keeps the greatest end.
+/// Allows no WRITE of a byte or more, CLONE or TRUNCATE that ends above a place, and keeps the
+/// greatest end.
 #[derive(Debug, Drop)]
 pub struct EndGuard {
     most: u64,

@@ -8,8 +8,9 @@ use crate::kinds::GuardSpec;
 
 const MOST_DIGITS: usize = 20;
 
-/// The guard that a word means: `guard:bytes=N`, `guard:commands=N`, `guard:nodev` or `guard:end=N`, where N is a number of 64
-/// bits in one to twenty decimal digits. None exactly for every other word.
+/// The guard that a word means: `guard:bytes=N`, `guard:commands=N`, `guard:nodev` or
+/// `guard:end=N`, where N is a number of 64 bits in one to twenty decimal digits. None exactly for
+/// every other word.
 #[tactic(auto, unfolding(send_model::specs::Guards::guard_of))]
 pub fn parse_guard(word: &str) -> Option<GuardSpec>
     ensures { option_map spec_meant result ≡ guard_of word.now }
@@ -28,7 +29,8 @@ pub fn parse_guard(word: &str) -> Option<GuardSpec>
     Some(GuardSpec::End(number_of(digits)?))
 }
 
-/// The number of 64 bits that one to twenty decimal digits say; None exactly for all other bytes. Takes no memory.
+/// The number of 64 bits that one to twenty decimal digits say; None exactly for all other bytes.
+/// Takes no memory.
 pub fn number_of(digits: &[u8]) -> Option<u64>
     ensures { result ≡ number_word digits.now }
 {

@@ -2,7 +2,13 @@
 // man page by `trials/manual.sh --write`, which knows the tables and the arms of `about_words` by
 // their form. In a sentence that takes two lines, a backslash ends the first.
 
-use escaped_words::meant_len;
+use crate::found::{Found, NoStream};
+use crate::missing::NamedKey;
+use crate::named_files::is_guard_word;
+use crate::nearly::{have_no_form, have_no_guard, have_no_parent, is_in_front, say_twice};
+use file_disk::OpenStop;
+use std::alloc::{AllocError, Global};
+use std::io::ErrorKind;
 
 const LIKE_THIS: &str =
     "the sender wrote an invalid command (this is no transmission damage): send the snapshot again \
@@ -15,7 +21,7 @@ const NO_FIT: &str =
     parent";
 
 // About a refusal, by its name.
-const REFUSALS: [(&str, &str); 35] = [
+const REFUSALS: [(&str, &str); 36] = [
     (
         "BadMagic",
         "this is no send stream, or it is still compressed or encrypted, or it is a store, or a \
@@ -91,22 +97,14 @@ const REFUSALS: [(&str, &str); 35] = [
         "this snapshot is not based on the one before it: if these are two chains, merge each \
         alone; else leave out the streams that the last snapshot does not need",
     ),
+    ("BadText", "this is not what a text of a stream has there"),
 ];
 
 // About the other messages, by how they begin.
-const NOTES: [(&[u8], &str); 12] = [
-    (
-        b"input fault",
-        "give it again when it can be read; `compose` reads each file twice, so unpack a \
-        compressed stream into a file first",
-    ),
+const NOTES: [(&[u8], &str); 10] = [
     (
         b"output fault",
         "standard output could not be written: its contents are incomplete",
-    ),
-    (
-        b"store fault",
-        "see to the disk, or to who uses the store; then look at `list`",
     ),
     (
         b"not a store 0",
@@ -122,8 +120,7 @@ const NOTES: [(&[u8], &str); 12] = [
     ),
     (
         b"missing",
-        "`list` and `show` print the names that there are; an unfinished snapshot can only be \
-        dropped",
+        "`list` and `show` print the names that there are",
     ),
     (
         b"too much",
@@ -155,8 +152,11 @@ pub(crate) fn about_refusal(name: &[u8]) -> Option<&'static str> {
 }
 
 /// What arguments that are not understood may have meant.
-pub(crate) fn about_words(words: &[String]) -> &'static str {
-    match words {
+///
+/// # Errors
+/// There is no memory.
+pub(crate) fn about_words(alloc: Global, words: &[String]) -> Result<&'static str, AllocError> {
+    Ok(match words {
         [] => "no command, or an argument that is not valid UTF-8: --help lists the commands",
         [word] if matches!(word.as_str(), "-h" | "help" | "-help" | "-?") => {
             "the option for help is --help"
@@ -164,33 +164,151 @@ pub(crate) fn about_words(words: &[String]) -> &'static str {
         [word] if matches!(word.as_str(), "-V" | "-v" | "version") => {
             "the option for the version is --version"
         }
-        [word, _] if matches!(word.as_str(), "audit" | "compose" | "export" | "receive") => {
+        [word, _] if takes_none(word.as_str()) => {
             "a STORE comes before the files, or none if the first stream is a full one"
         }
-        [_, none, guard, ..]
-            if none.as_str() == "none" && guard.as_bytes().starts_with(b"guard:") => {
-            "guards come before the store"
+        [word, _] if word.as_str() == "receive" => "a STORE comes before the files",
+        words => about_forms(words, have_no_parent(alloc, words)?),
+    })
+}
+
+// What is wrong with the form of some of them. `no_parent` says whether one begins as a parent and
+// is none.
+fn about_forms(words: &[String], no_parent: bool) -> &'static str {
+    match words {
+        words if have_no_guard(words) => {
+            "a guard is guard:bytes=N, guard:commands=N, guard:end=N or guard:nodev"
         }
-        [.., word] if word.as_bytes().starts_with(b"name:") => {
-            "a file has to follow the name that is given for it"
-        }
-        words if is_no_form(words) => {
+        words if have_no_form(words) => {
             "after escaped: write a name as `list` and `show` print it: a backslash, x and two of \
             0-9 a-f for each byte that is not visible"
+        }
+        _ if no_parent => {
+            "after parent: write a UUID and a CTRANSID as `list` prints a PARENT: small letters, \
+            hyphens, a colon and a number"
+        }
+        words if say_twice(words) => {
+            "in front of one file there can be one name:NEW, and one parent: for each UUID"
+        }
+        [.., word] if is_in_front(word.as_str()) => {
+            "name:NEW and parent:UUID:CTRANSID come before the file that they are for"
         }
         _ => "these arguments are not understood: --help lists the commands",
     }
 }
 
-// Whether one of the words begins as an escaped name and is none.
-fn is_no_form(words: &[String]) -> bool {
-    for word in words {
-        let word = word.as_bytes();
-        if meant_len(word.strip_prefix(b"name:").unwrap_or(word)).is_none() {
-            return true;
+/// What to do about a file that could not be read, by the kind of the system's reason. `again` says
+/// whether the command reads each file twice.
+pub(crate) fn about_input(name: &str, reason: Option<ErrorKind>, again: bool) -> &'static str {
+    match reason {
+        Some(ErrorKind::NotFound) if is_guard_word(name) => "guards come before the store",
+        Some(ErrorKind::NotFound) if is_in_front(name) => {
+            "only the files of audit, compose, export and receive have name: and parent: in front"
+        }
+        Some(ErrorKind::NotFound) if name == "-" => "write /dev/stdin for standard input",
+        Some(ErrorKind::NotFound) => "check the path",
+        Some(ErrorKind::PermissionDenied) => "run btrsend as a user who may read it",
+        Some(ErrorKind::IsADirectory) => {
+            "it is a folder: give the files in it, in the order in which they were sent"
+        }
+        Some(ErrorKind::NotSeekable) if again => {
+            "`compose` reads each file twice: unpack it into a file first"
+        }
+        Some(ErrorKind::NotSeekable) => "give a pipe only once",
+        _ => "give it again when it can be read",
+    }
+}
+
+/// What to do about a store that could not be opened, by why, or whose device failed.
+pub(crate) fn about_store(words: &[String], why: Option<&OpenStop>) -> &'static str {
+    match why {
+        Some(OpenStop::InUse) => "wait until that program has ended",
+        Some(OpenStop::NotFile) => "a store is a regular file, which `init` makes",
+        Some(OpenStop::TooLarge) => "this is no store",
+        Some(OpenStop::System(reason)) => about_unopened(words, reason.kind()),
+        None => "see to the disk; then look at `list`",
+    }
+}
+
+// The same, by the kind of the system's reason.
+fn about_unopened(words: &[String], reason: ErrorKind) -> &'static str {
+    match (words, reason) {
+        ([word, ..], ErrorKind::NotFound) if word.as_str() == "init" => "make its folder first",
+        ([_, store, ..], ErrorKind::NotFound) if is_guard_word(store.as_str()) => {
+            "only audit, receive and interleave take guards"
+        }
+        ([word, ..], ErrorKind::NotFound) if takes_none(word.as_str()) => {
+            "`init` makes a store; without one write `none` in front of the files"
+        }
+        (_, ErrorKind::NotFound) => "`init` makes a store",
+        (_, ErrorKind::PermissionDenied) => "run btrsend as a user who may use it",
+        _ => "see to the disk; then look at `list`",
+    }
+}
+
+// Whether a command takes `none` for a store.
+fn takes_none(word: &str) -> bool {
+    matches!(word, "audit" | "compose" | "export")
+}
+
+/// What to do about what was found out, if that says it.
+pub(crate) fn about_found(words: &[String], found: Found) -> Option<&'static str> {
+    match found {
+        Found::NoStream(what) => Some(about_no_stream(what)),
+        Found::StreamAsStore => Some(about_no_store(words)),
+        Found::Begun => Some(BEGUN),
+        Found::Unfinished => Some(UNFINISHED),
+        Found::Nothing | Found::Missing(_) | Found::Restored(..) => None,
+    }
+}
+
+// About a file that is no stream.
+fn about_no_stream(what: NoStream) -> &'static str {
+    match what {
+        NoStream::Store => {
+            "this is a store and no stream: `send` writes a snapshot of it as a stream"
+        }
+        NoStream::Compressed => "this is compressed: unpack it first",
+        NoStream::SideFile => "this is a side file, such as btrbk's .info: leave it out",
+        NoStream::Behind => {
+            "something else follows the streams in this file: cut it off with `head -c` at the \
+            message's third number"
         }
     }
-    false
+}
+
+// About a stream that is given as a store.
+fn about_no_store(words: &[String]) -> &'static str {
+    match words {
+        [word, ..] if takes_none(word.as_str()) => {
+            "this is a stream and no store: write `none` in front of it"
+        }
+        _ => "this is a stream and no store: `init` makes a store, and `receive` fills it",
+    }
+}
+
+const BEGUN: &str =
+    "the snapshot that it names is unfinished in the store: `drop` it, and receive its stream \
+    again";
+
+const UNFINISHED: &str = "this snapshot is unfinished: `drop` it, and receive its stream again";
+
+/// What to do about a snapshot that is missing, if the store has one with its UUID and another
+/// CTRANSID.
+///
+/// # Errors
+/// There is no memory.
+pub(crate) fn about_restored(
+    alloc: Global,
+    named: NamedKey,
+    stored: u64,
+) -> Result<String, AllocError> {
+    let NamedKey { uuid, ctransid } = named;
+    format!(in alloc;
+        "it names {uuid} with CTRANSID {ctransid}; a snapshot with this UUID and \
+        CTRANSID {stored} is in the store; if it is the same one, restored, put \
+        parent:{uuid}:{stored} before the file"
+    )
 }
 
 /// What is said where standard output, a terminal, would get a stream.

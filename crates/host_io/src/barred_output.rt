@@ -1,6 +1,8 @@
 // When standard output may not take what a command writes.
-ghost use Rattle.std.specs.Prelude.{◌≡◌, ◌≤◌, None};
+ghost use Rattle.std.specs.Prelude.{◌≡◌, ◌≤◌, None, map};
+ghost use Rattle.std.specs.String.{string_bytes};
 ghost use Rattle.sx_base.specs.Causes.{Rose};
+ghost use Rattle.host_io.specs.Edge.{barred_for, writes_stream};
 
 use crate::advice::{TO_A_TERMINAL, TO_ITSELF, TO_THE_STORE};
 use crate::named_files::{NamedFiles, is_output};
@@ -32,13 +34,25 @@ impl BarredOutput {
 
 /// Why standard output may not take what these words write, if it may not.
 pub(crate) fn barred_output(rt: &HostRuntime, words: &[String]) -> Option<BarredOutput> {
-    if is_store(rt, words) {
+    barred_for(
+        is_store(rt, words),
+        NamedFiles::of(words).have_output(rt),
+        writes_stream(words) && rt.stdout().is_terminal(),
+    )
+}
+
+// The same, by whether standard output is the store, one of the files, or a terminal that would get
+// a stream.
+fn barred_for(is_store: bool, is_input: bool, is_stream_to_terminal: bool) -> Option<BarredOutput>
+    ensures { result ≡ barred_for is_store is_input is_stream_to_terminal }
+{
+    if is_store {
         return Some(BarredOutput::Store);
     }
-    if NamedFiles::of(words).have_output(rt) {
+    if is_input {
         return Some(BarredOutput::Input);
     }
-    if writes_stream(words) && rt.stdout().is_terminal() {
+    if is_stream_to_terminal {
         return Some(BarredOutput::Terminal);
     }
     None
@@ -53,10 +67,19 @@ fn is_store(rt: &HostRuntime, words: &[String]) -> bool {
 }
 
 // Whether words ask for a stream on standard output.
-fn writes_stream(words: &[String]) -> bool {
-    match words {
-        [word, ..] => matches!(word.as_str(), "compose" | "export" | "send" | "restore"),
-        [] => false,
+#[tactic(auto, unfolding(crate::specs::Edge::writes_stream))]
+fn writes_stream(words: &[String]) -> bool
+    ensures { result ≡ writes_stream (map string_bytes words.now) }
+{
+    let Some(word) = words.first() else {
+        return false;
+    };
+    match word.as_str() {
+        "compose" => true,
+        "export" => true,
+        "send" => true,
+        "restore" => true,
+        _ => false,
     }
 }
 

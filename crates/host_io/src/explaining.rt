@@ -1,74 +1,30 @@
 // The explanation of a message, for people: which file it is about, the system's reason, and what
 // to do.
-ghost use Rattle.std.specs.Prelude.{◌≡◌};
-
-use crate::advice::{about_note, about_refusal, about_words};
-use crate::missing::push_missing;
-use crate::named_files::NamedFiles;
+use crate::advice::{
+    about_found, about_input, about_note, about_refusal, about_restored, about_store, about_words,
+};
+use crate::found::{Asked, Found, find_key, find_name, find_no_store, find_no_stream};
+use crate::kept_notes::{KeptNotes, word_of};
+use crate::named_files::{NamedFiles, read_twice};
+use crate::path_inputs::PathInputs;
+use crate::statuses::{INPUT_FAULT, MISSING, NOT_STORE, REFUSED, STORE_FAULT, USAGE};
+use file_disk::OpenStop;
 use guard_rules::number_of;
+use send_top::store_word;
 use std::alloc::{AllocError, Global};
-use std::fs::Files;
+use std::env;
+use std::fs::{File, Files};
 use std::io::IsTerminal;
-use std::{env, io};
-use sx_base::{Blob, Failed, Sink, escape_into, write_whole};
+use stream_dump::push_uuid;
+use sx_base::{Blob, Sink, escape_into, write_whole};
 
-// How many bytes of the notes are kept: all notes are shorter but those that say what is missing.
-const KEPT: usize = 160;
-
-/// A sink that remembers the first bytes that it took. What it takes and its faults are those of
-/// the inner sink.
-#[derive(Debug, Drop)]
-pub(crate) struct KeptNotes<N> {
-    inner: N,
-    kept: [u8; KEPT],
-    count: usize,
-}
-
-impl<N: Sink> KeptNotes<N> {
-    /// The inner sink, of which nothing is remembered yet.
-    pub(crate) fn new(inner: N) -> KeptNotes<N> {
-        KeptNotes {
-            inner,
-            kept: [0; KEPT],
-            count: 0,
-        }
-    }
-
-    // The bytes that are remembered.
-    fn note(&self) -> &[u8] {
-        &self.kept[..self.count.min(KEPT)]
-    }
-
-    // Remembers bytes, as far as there is room.
-    fn keep(&mut self, bytes: &[u8])
-        ensures same { self.new.inner ≡ self.old.inner }
-    {
-        self.count = put_behind(&mut self.kept, self.count, bytes);
-    }
-}
-
-// Puts bytes behind the first ones of a buffer, as far as there is room, and gives how many stand
-// there then.
-fn put_behind(kept: &mut [u8], count: usize, bytes: &[u8]) -> usize {
-    let mut count = count;
-    for byte in bytes {
-        if count < kept.len() {
-            kept[count] = *byte;
-            count += 1;
-        }
-    }
-    count
-}
-
-impl<N: Sink> Sink for KeptNotes<N> {
-    ghost taken = { λ s. N.taken s.inner };
-
-    ghost faults = { λ s. N.faults s.inner };
-
-    fn write(&mut self, piece: &[u8]) -> Result<usize, Failed> {
-        self.keep(piece);
-        self.inner.write(piece)
-    }
+/// A run that is over: its words, its status, and why the store could not be opened, if it could
+/// not.
+#[derive(Debug, Clone, Copy)]
+pub(crate) struct EndedRun<'a> {
+    pub(crate) asked: Asked<'a>,
+    pub(crate) status: u8,
+    pub(crate) why: Option<&'a OpenStop>,
 }
 
 /// Whether explanations are wanted: standard error is a terminal, or the variable BTRSEND_EXPLAIN
@@ -77,84 +33,193 @@ pub(crate) fn is_wanted(rt: &HostRuntime) -> bool {
     rt.stderr().is_terminal() || env::var(rt, "BTRSEND_EXPLAIN").is_ok()
 }
 
-/// Writes the explanation behind the message, if there is a message and something is to be said of
-/// it. `trouble` is what the system said, with what it said it of, or nothing. Faults of the notes,
-/// and want of memory, are passed over.
-pub(crate) fn explain<R: Files, N: Sink>(
-    files: &R,
-    alloc: Global,
-    words: &[String],
-    trouble: &[u8],
+/// Writes the explanation behind the message, if there is a message. The files and the store, which
+/// must not be open any more to be written to, may be read again for it. Faults of these and of the
+/// notes, and want of memory, are passed over.
+pub(crate) fn explain<R: Files<File = File>, N: Sink>(
+    ended: EndedRun<'_>,
+    inputs: &PathInputs<'_, R>,
     notes: &mut KeptNotes<N>,
 ) {
-    if notes.count == 0 {
+    if notes.note().is_empty() {
         return;
     }
-    if let Ok(line) = line_about(files, alloc, notes.note(), words, trouble) {
-        let _ = write_whole(&mut notes.inner, line.as_slice());
+    if let Ok(line) = line_about(ended, inputs, notes.note()) {
+        let _ = write_whole(notes.inner(), line.as_slice());
     }
 }
 
-// The line about a note; without a byte where there is nothing to say.
-fn line_about<R: Files>(
-    files: &R,
-    alloc: Global,
+// The line about a note.
+fn line_about<R: Files<File = File>>(
+    ended: EndedRun<'_>,
+    inputs: &PathInputs<'_, R>,
     note: &[u8],
-    words: &[String],
-    trouble: &[u8],
 ) -> Result<Blob, AllocError> {
-    let named = NamedFiles::of(words);
-    let mut line = Blob::new(alloc);
+    let asked = ended.asked;
+    let files = inputs.files();
+    let mut line = Blob::new(asked.alloc);
     line.push_all(b"btrsend: ")?;
-    if note.starts_with(b"refused ") {
-        push_refused(note, named, &mut line)?;
-        if let b"NoParent" | b"NoSource" = word_of(note, 5) {
-            push_missing(
-                files,
-                alloc,
-                named,
-                word_of(note, 1),
-                word_of(note, 3),
-                &mut line,
-            )?;
+    match ended.status {
+        REFUSED => {
+            let found = found_refused(files, asked, note);
+            push_refused(asked, note, &found, &mut line)?;
         }
-    } else if note.starts_with(b"usage") {
-        line.push_all(about_words(words).as_bytes())?;
-    } else {
-        push_subject(note, named, trouble, &mut line)?;
-        line.push_all(about_note(note).unwrap_or("").as_bytes())?;
+        USAGE => push_usage(asked, &mut line)?,
+        INPUT_FAULT => push_input_fault(asked, inputs, &mut line)?,
+        STORE_FAULT => push_store_fault(ended, &mut line)?,
+        NOT_STORE => {
+            let found = find_no_store(files, asked);
+            push_store_name(asked.words, &mut line)?;
+            push_found(asked.words, note, &found, &mut line)?;
+        }
+        MISSING => {
+            let found = find_name(files, asked, note);
+            push_found(asked.words, note, &found, &mut line)?;
+        }
+        _ => push_other(asked.words, note, &mut line)?,
     }
     line.push_all(b"\n")?;
     Ok(line)
 }
 
-// Which command of which file is refused, and what to do about it.
-fn push_refused(note: &[u8], files: NamedFiles<'_>, line: &mut Blob) -> Result<(), AllocError> {
-    push_file(word_of(note, 1), files, line)?;
-    line.push_all(b", command ")?;
-    line.push_all(word_of(note, 2))?;
-    line.push_all(b": ")?;
-    line.push_all(about_refusal(word_of(note, 5)).unwrap_or("").as_bytes())
+// What is found out about a refusal.
+fn found_refused<R: Files<File = File>>(files: &R, asked: Asked<'_>, note: &[u8]) -> Found {
+    match word_of(note, 5) {
+        b"NoParent" | b"NoSource" => find_key(files, asked, note),
+        b"BadMagic" => find_no_stream(files, asked, note),
+        _ => Found::Nothing,
+    }
 }
 
-// What another note speaks of: what the system said, or the file of a number.
-fn push_subject(
+// Which command of which file is refused, and what to do about it.
+fn push_refused(
+    asked: Asked<'_>,
     note: &[u8],
-    files: NamedFiles<'_>,
-    trouble: &[u8],
+    found: &Found,
     line: &mut Blob,
 ) -> Result<(), AllocError> {
-    if !trouble.is_empty() {
-        return line.push_all(trouble);
+    push_file(word_of(note, 1), NamedFiles::of(asked.words), line)?;
+    line.push_all(part_of(word_of(note, 5)))?;
+    line.push_all(word_of(note, 2))?;
+    line.push_all(b": ")?;
+    match found {
+        Found::Restored(key, stored) => {
+            let said = about_restored(asked.alloc, *key, *stored)?;
+            line.push_all(said.as_bytes())
+        }
+        Found::Missing(key) => {
+            push_found(asked.words, note, found, line)?;
+            line.push_all(b"; its UUID is ")?;
+            push_uuid(&key.uuid, line)
+        }
+        found => push_found(asked.words, note, found, line),
     }
-    let place = if note.starts_with(b"input too long ") {
-        3
+}
+
+// What arguments that are not understood may have meant.
+fn push_usage(asked: Asked<'_>, line: &mut Blob) -> Result<(), AllocError> {
+    let said = about_words(asked.alloc, asked.words)?;
+    line.push_all(said.as_bytes())
+}
+
+// What a refusal counts in a file: the lines of a text, and the commands of streams.
+fn part_of(refusal: &[u8]) -> &'static [u8] {
+    match refusal {
+        b"BadText" => b", line ",
+        _ => b", command ",
+    }
+}
+
+// Which file could not be read, the system's reason, and what to do about it.
+fn push_input_fault<R: Files>(
+    asked: Asked<'_>,
+    inputs: &PathInputs<'_, R>,
+    line: &mut Blob,
+) -> Result<(), AllocError> {
+    let again = read_twice(asked.words);
+    let Some(reason) = inputs.failed_reason() else {
+        return line.push_all(about_input("", None, again).as_bytes());
+    };
+    let name = inputs.failed_name().unwrap_or("");
+    let said = format!(in asked.alloc; "{reason}")?;
+    push_reason(name, said.as_str(), line)?;
+    line.push_all(about_input(name, Some(reason.kind()), again).as_bytes())
+}
+
+// Why the store could not be opened, or that its device failed, and what to do about it.
+fn push_store_fault(ended: EndedRun<'_>, line: &mut Blob) -> Result<(), AllocError> {
+    let words = ended.asked.words;
+    let said = store_reason(ended.asked.alloc, ended.why)?;
+    push_reason(store_word(words).unwrap_or(""), said.as_str(), line)?;
+    line.push_all(about_store(words, ended.why).as_bytes())
+}
+
+fn store_reason(alloc: Global, why: Option<&OpenStop>) -> Result<String, AllocError> {
+    match why {
+        Some(OpenStop::System(reason)) => format!(in alloc; "{reason}"),
+        Some(why) => format!(in alloc; "{why}"),
+        None => String::from_str(alloc, "its device failed"),
+    }
+}
+
+// A name, and what the system said of it.
+fn push_reason(name: &str, reason: &str, line: &mut Blob) -> Result<(), AllocError> {
+    escape_into(name.as_bytes(), line)?;
+    line.push_all(b": ")?;
+    line.push_all(reason.as_bytes())?;
+    line.push_all(b"; ")
+}
+
+// What to do about a note: by what was found out about it, or else by its name or its beginning.
+fn push_found(
+    words: &[String],
+    note: &[u8],
+    found: &Found,
+    line: &mut Blob,
+) -> Result<(), AllocError> {
+    let advice = match about_found(words, *found) {
+        Some(advice) => advice,
+        None => about_any(note),
+    };
+    line.push_all(advice.as_bytes())
+}
+
+// What there is to say of a note.
+fn about_any(note: &[u8]) -> &'static str {
+    match word_of(note, 0) {
+        b"refused" => about_refusal(word_of(note, 5)).unwrap_or(""),
+        _ => about_note(note).unwrap_or(""),
+    }
+}
+
+// What another note speaks of, and what to do about it.
+fn push_other(words: &[String], note: &[u8], line: &mut Blob) -> Result<(), AllocError> {
+    let files = NamedFiles::of(words);
+    if note.starts_with(b"input too long ") {
+        push_file(word_of(note, 3), files, line)?;
+        line.push_all(b": ")?;
     } else if note.starts_with(b"input changed ") {
-        2
-    } else {
+        push_file(word_of(note, 2), files, line)?;
+        line.push_all(b": ")?;
+    } else if is_about_store(note) {
+        push_store_name(words, line)?;
+    }
+    push_found(words, note, &Found::Nothing, line)
+}
+
+// Whether a note speaks of the store.
+fn is_about_store(note: &[u8]) -> bool {
+    note.starts_with(b"log full ")
+        || note.starts_with(b"store there ")
+        || note.starts_with(b"damaged ")
+}
+
+// The name of the store, if there is one.
+fn push_store_name(words: &[String], line: &mut Blob) -> Result<(), AllocError> {
+    let Some(name) = store_word(words) else {
         return Ok(());
     };
-    push_file(word_of(note, place), files, line)?;
+    escape_into(name.as_bytes(), line)?;
     line.push_all(b": ")
 }
 
@@ -167,13 +232,4 @@ fn push_file(number: &[u8], files: NamedFiles<'_>, line: &mut Blob) -> Result<()
         Some(name) => escape_into(name.as_bytes(), line),
         None => Ok(()),
     }
-}
-
-// The word of a note at a place, counted from 0; none where there are fewer.
-fn word_of(note: &[u8], place: usize) -> &[u8] {
-    let line = match note {
-        [line @ .., b'\n'] => line,
-        line => line,
-    };
-    line.split(|byte| *byte == b' ').nth(place).unwrap_or(&[])
 }

@@ -5,11 +5,11 @@ pub(crate) const HELP: &str = "\
 btrsend checks the streams that `btrfs send` writes, merges a chain of them into one stream, and
 keeps snapshots in one crash-safe file, the store. It needs no Btrfs.
 
-usage: btrsend audit [GUARD..] STORE|none [name:NEW] FILE ..
-       btrsend compose STORE|none [name:NEW] FILE .. > MERGED
-       btrsend export STORE|none [name:NEW] FILE .. | btrfs receive FOLDER
+usage: btrsend audit [GUARD..] STORE|none [OVERRIDE..] FILE ..
+       btrsend compose STORE|none [OVERRIDE..] FILE .. > MERGED
+       btrsend export STORE|none [OVERRIDE..] FILE .. | btrfs receive FOLDER
        btrsend init STORE
-       btrsend receive [GUARD..] STORE [name:NEW] FILE ..
+       btrsend receive [GUARD..] STORE [OVERRIDE..] FILE ..
        btrsend list STORE
        btrsend cat STORE NAME PATH > BYTES
        btrsend restore STORE NAME | btrfs receive FOLDER
@@ -51,7 +51,8 @@ Every day:
   list      writes a line for each snapshot: NAME UUID CTRANSID complete|unfinished PARENT
   cat       writes the bytes of the file at PATH of a snapshot
   restore   writes a snapshot as a full stream for `btrfs receive`, which makes it right: owners,
-            ACLs, capabilities and times too
+            ACLs, capabilities and times too. A stream that is sent with -p the restored snapshot
+            needs parent:UUID:CTRANSID in front of its FILE, as `list` prints a PARENT
 
 More:
 
@@ -74,8 +75,10 @@ For testing:
   STORE     a file that `btrsend init` made. While a program writes to it, no other can use it
   none      no store: the first stream must be a full one
   FILE      a file that `btrfs send` wrote, with one stream or several, or a pipe (not of compose)
+  OVERRIDE  says something of the FILE after it. There can be both, in any order:
+            name:NEW gives its snapshot the name NEW, for tools that name all alike
+            parent:UUID:CTRANSID says which snapshot it means by this UUID: see restore
   NAME      the name of a snapshot; PATH is a path in it, such as dir/file
-  name:NEW  gives the snapshot in the FILE after it the name NEW, for tools that name all alike
   escaped:WORD   the NAME, PATH or NEW that `list` and `show` print as WORD, if it is not UTF-8
   GUARD     a limit: guard:bytes=N of data, guard:commands=N, guard:nodev for no device nodes, or
             guard:end=N for the end of a WRITE, CLONE or TRUNCATE
@@ -86,4 +89,4 @@ Status 0: everything was done. With any other, a message on standard error says 
 that was written is not to be used. The man page has each status and each refusal.
 ";
 
-pub(crate) const VERSION: &str = "btrsend 0.1.0\n";
+pub(crate) const VERSION: &str = "btrsend 0.2.0\n";

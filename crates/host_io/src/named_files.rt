@@ -1,13 +1,22 @@
 // Which words name files, and which give guards.
+use crate::nearly::is_in_front;
 use std::fs::{self, Files};
 use std::os::unix::fs::MetadataExt;
 
-/// The words of a run that name files. Where files take turns, guards stand among them; where the
-/// parts in them may be given names, these.
+/// The words of a run that name files. Where files take turns, guards stand among them; where
+/// something may be said in front of them, that.
 #[derive(Debug, Clone, Copy)]
 pub(crate) struct NamedFiles<'a> {
     words: &'a [String],
-    among: Option<&'static [u8]>,
+    among: Among,
+}
+
+// What stands among files and names none.
+#[derive(Debug, Clone, Copy)]
+enum Among {
+    Nothing,
+    Guards,
+    Said,
 }
 
 impl<'a> NamedFiles<'a> {
@@ -18,7 +27,10 @@ impl<'a> NamedFiles<'a> {
                 words: names_behind(word.as_str(), &words[1..]),
                 among: among_files(word.as_str()),
             },
-            [] => NamedFiles { words, among: None },
+            [] => NamedFiles {
+                words,
+                among: Among::Nothing,
+            },
         }
     }
 
@@ -53,11 +65,20 @@ impl<'a> NamedFiles<'a> {
             && is_output(files, word.as_str()))
     }
 
+    /// The files and what is said in front of them; nothing where nothing may be said.
+    pub(crate) fn said(&self) -> &'a [String] {
+        match self.among {
+            Among::Said => self.words,
+            Among::Nothing | Among::Guards => &[],
+        }
+    }
+
     // Whether a word names no file.
     fn is_other(&self, word: &str) -> bool {
         match self.among {
-            Some(begin) => word.as_bytes().starts_with(begin),
-            None => false,
+            Among::Nothing => false,
+            Among::Guards => is_guard_word(word),
+            Among::Said => is_in_front(word),
         }
     }
 }
@@ -75,6 +96,14 @@ pub(crate) fn guard_words(words: &[String]) -> &[String] {
 pub(crate) fn do_turn(words: &[String]) -> bool {
     match words {
         [word, ..] => word.as_str() == "interleave",
+        [] => false,
+    }
+}
+
+/// Whether words ask for files that are read twice.
+pub(crate) fn read_twice(words: &[String]) -> bool {
+    match words {
+        [word, ..] => word.as_str() == "compose",
         [] => false,
     }
 }
@@ -111,12 +140,12 @@ fn place_of<R: Files>(files: &R, name: &str) -> Option<(u64, u64)> {
     Some((about.dev(), about.ino()))
 }
 
-// What words begin with that stand among files and name none, by the first word.
-fn among_files(word: &str) -> Option<&'static [u8]> {
+// What stands among files and names none, by the first word.
+fn among_files(word: &str) -> Among {
     match word {
-        "audit" | "compose" | "export" | "receive" => Some(b"name:"),
-        "interleave" => Some(b"guard:"),
-        _ => None,
+        "audit" | "compose" | "export" | "receive" => Among::Said,
+        "interleave" => Among::Guards,
+        _ => Among::Nothing,
     }
 }
 

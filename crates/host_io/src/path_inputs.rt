@@ -93,6 +93,11 @@ impl<'a, R: Files> PathInputs<'a, R> {
         }
     }
 
+    /// The files of the system.
+    pub(crate) fn files(&self) -> &'a R {
+        self.files
+    }
+
     /// The name of the file that the system failed last at; none where it did not, or there was no
     /// memory for it.
     pub fn failed_name(&self) -> Option<&str> {

@@ -2,26 +2,28 @@
 use crate::barred_inputs::BarredInputs;
 use crate::barred_output::{BarredOutput, BarredSink, barred_output};
 use crate::disk_progress::DiskProgress;
-use crate::explaining::{KeptNotes, explain, is_wanted};
+use crate::explaining::{EndedRun, explain, is_wanted};
+use crate::found::Asked;
 use crate::help::{HELP, VERSION};
+use crate::kept_notes::KeptNotes;
 use crate::named_files::{NamedFiles, bytes_of, do_turn, guard_words, is_guard_word};
 use crate::no_disk::NoDisk;
+use crate::opening::{Opened, changes_store, open_store};
 use crate::out_sink::OutSink;
 use crate::path_inputs::PathInputs;
 use crate::progress::{Progress, millis_of};
 use crate::screen::{AfterLine, Screen, end_line};
 use crate::standard_files::StandardFiles;
-use file_disk::{FileDisk, OpenStop};
+use crate::statuses::{DONE, INPUT_FAULT, OUTPUT_FAULT};
+use file_disk::OpenStop;
 use guard_rules::{AnyGuard, Guard, parse_guard};
-use send_top::{Answer, StoreUse, run, status, store_use, store_word, write_note};
+use send_top::{Answer, run, status, store_word, write_note};
 use std::alloc::{AllocError, Global};
 use std::cell::RefCell;
-use std::fs::File;
 use std::io::{ErrorKind, IsTerminal};
 use std::process::ExitCode;
-use std::rt::Files;
-use std::{env, fs, io};
-use sx_base::{Blob, Disk, Inputs, MemSink, Outcome, Sink, escape_into, write_whole};
+use std::{env, io};
+use sx_base::{Disk, Inputs, MemSink, Outcome, Sink, write_whole};
 
 /// Does what the words after the program's name ask for, over the files and standard streams of the
 /// system, and gives the status to end with. A lone `--help` or `--version` is answered here. A
@@ -101,30 +103,20 @@ fn run_unread<N: Sink, D: Disk + Drop>(
     let mut inputs = BarredInputs::new();
     let mut out = BarredSink::new();
     let mut said = MemSink::new(alloc);
-    let mut disk = disk;
-    let status = run_words(alloc, words, &mut inputs, &mut out, &mut said, &mut disk)?;
+    let status = run_and_close(alloc, words, &mut inputs, &mut out, &mut said, disk)?;
     if let DONE | INPUT_FAULT | OUTPUT_FAULT = status {
         return Ok(bar(why, notes));
     }
     let _ = write_whole(notes, said.bytes());
     if is_wanted(rt) {
         let ended = EndedRun {
-            alloc,
-            words,
+            asked: Asked { alloc, words },
             status,
-            why: stop,
+            why: stop.as_ref(),
         };
-        explain_run(rt, &ended, &PathInputs::new(rt, alloc), notes);
+        explain(ended, &PathInputs::new(rt, alloc), notes);
     }
     Ok(status)
-}
-
-// Whether words ask for a change of the store that they name.
-fn changes_store(words: &[String]) -> bool {
-    match store_use(words) {
-        Some(StoreUse::Make | StoreUse::Write) => true,
-        Some(StoreUse::Read) | None => false,
-    }
 }
 
 // Answers that standard output may not be written, and says why.
@@ -135,32 +127,6 @@ fn bar<N: Sink>(why: BarredOutput, notes: &mut KeptNotes<N>) -> u8 {
     let _ = write_whole(notes, why.advice().as_bytes());
     let _ = write_whole(notes, b"\n");
     status(&answer)
-}
-
-// The store that words name.
-#[derive(Drop)]
-enum Opened {
-    // It is open for what is done with it.
-    Disk(FileDisk<File>),
-    // They name none.
-    NoStore,
-    // It can not be opened.
-    Stopped(OpenStop),
-}
-
-fn open_store(rt: &HostRuntime, words: &[String]) -> Opened {
-    let (Some(path), Some(usage)) = (store_word(words), store_use(words)) else {
-        return Opened::NoStore;
-    };
-    let opened = match usage {
-        StoreUse::Make => FileDisk::create(rt, rt.alloc(), path),
-        StoreUse::Write => FileDisk::open(rt, rt.alloc(), path),
-        StoreUse::Read => FileDisk::open_to_read(rt, rt.alloc(), path),
-    };
-    match opened {
-        Ok(disk) => Opened::Disk(disk),
-        Err(why) => Opened::Stopped(why),
-    }
 }
 
 // Runs the words over the files of the system and a disk. If the store could not be opened, `why`
@@ -178,29 +144,29 @@ fn run_on<O: Sink, N: Sink, D: Disk + Drop>(
     }
     let alloc = rt.alloc();
     let mut inputs = PathInputs::new(rt, alloc);
-    let mut disk = disk;
-    let status = run_words(alloc, words, &mut inputs, out, notes, &mut disk)?;
+    let status = run_and_close(alloc, words, &mut inputs, out, notes, disk)?;
     if is_wanted(rt) {
         let ended = EndedRun {
-            alloc,
-            words,
+            asked: Asked { alloc, words },
             status,
-            why,
+            why: why.as_ref(),
         };
-        explain_run(rt, &ended, &inputs, notes);
+        explain(ended, &inputs, notes);
     }
     Ok(status)
 }
 
-// Runs the words, with one guard for each guard word of `audit` and `receive`.
-fn run_words<I: Inputs, O: Sink, N: Sink, D: Disk>(
+// Runs the words over a disk, which is closed then, with one guard for each guard word of `audit`
+// and `receive`.
+fn run_and_close<I: Inputs, O: Sink, N: Sink, D: Disk + Drop>(
     alloc: Global,
     words: &[String],
     inputs: &mut I,
     out: &mut O,
     notes: &mut N,
-    disk: &mut D,
+    disk: D,
 ) -> Result<u8, AllocError> {
+    let mut disk = disk;
     let mut guards: Vec<Box<dyn Guard>> = Vec::new(alloc);
     for word in guard_words(words) {
         let Some(spec) = parse_guard(word.as_str()) else {
@@ -211,85 +177,7 @@ fn run_words<I: Inputs, O: Sink, N: Sink, D: Disk>(
         };
         guards.push(Box::new(alloc, AnyGuard::new(spec))?)?;
     }
-    Ok(run(alloc, words, guards, inputs, out, notes, disk))
-}
-
-// A run that is over: its words, its status, and why the store could not be opened, if it could
-// not. And where memory comes from.
-#[derive(Debug, Drop)]
-struct EndedRun<'a> {
-    alloc: Global,
-    words: &'a [String],
-    status: u8,
-    why: Option<OpenStop>,
-}
-
-// Writes the explanation of a run that failed, with what the system said.
-fn explain_run<R: Files, N: Sink>(
-    files: &R,
-    ended: &EndedRun<'_>,
-    inputs: &PathInputs<'_, R>,
-    notes: &mut KeptNotes<N>,
-) {
-    let mut trouble = Blob::new(ended.alloc);
-    if put_trouble(ended, inputs, &mut trouble).is_ok() {
-        explain(files, ended.alloc, ended.words, trouble.as_slice(), notes);
-    }
-}
-
-// What the system said of the file or the store that failed.
-fn put_trouble<R: Files>(
-    ended: &EndedRun<'_>,
-    inputs: &PathInputs<'_, R>,
-    to: &mut Blob,
-) -> Result<(), AllocError> {
-    match ended.status {
-        INPUT_FAULT => put_input_trouble(ended.alloc, inputs, to),
-        STORE_FAULT => {
-            escape_into(store_word(ended.words).unwrap_or("").as_bytes(), to)?;
-            to.push_all(b": ")?;
-            put_store_trouble(ended.alloc, ended.why.as_ref(), to)?;
-            to.push_all(b"; ")
-        }
-        _ => Ok(()),
-    }
-}
-
-fn put_input_trouble<R: Files>(
-    alloc: Global,
-    inputs: &PathInputs<'_, R>,
-    to: &mut Blob,
-) -> Result<(), AllocError> {
-    let Some(reason) = inputs.failed_reason() else {
-        return Ok(());
-    };
-    let reason = format!(in alloc; "{reason}")?;
-    let name = inputs.failed_name().unwrap_or("");
-    escape_into(name.as_bytes(), to)?;
-    to.push_all(b": ")?;
-    to.push_all(reason.as_bytes())?;
-    if name.as_bytes().starts_with(b"guard:") {
-        to.push_all(b"; guards come before the store")?;
-    }
-    to.push_all(b"; ")
-}
-
-fn put_store_trouble(
-    alloc: Global,
-    why: Option<&OpenStop>,
-    to: &mut Blob,
-) -> Result<(), AllocError> {
-    match why {
-        Some(OpenStop::System(reason)) => {
-            let reason = format!(in alloc; "{reason}")?;
-            to.push_all(reason.as_bytes())
-        }
-        Some(why) => {
-            let why = format!(in alloc; "{why}")?;
-            to.push_all(why.as_bytes())
-        }
-        None => to.push_all(b"its device failed"),
-    }
+    Ok(run(alloc, words, guards, inputs, out, notes, &mut disk))
 }
 
 // What a run that says how far it is begins with.
@@ -322,23 +210,22 @@ fn run_shown<D: Disk + Drop>(
     let files = PathInputs::new(rt, alloc);
     let mut inputs = Progress::new(files, rt, &screen, alloc, first, all);
     let size = bytes_of(rt, store.as_str());
-    let mut disk = DiskProgress::new(disk, rt, &screen, alloc, store, size);
+    let disk = DiskProgress::new(disk, rt, &screen, alloc, store, size);
     let mut notes = KeptNotes::new(AfterLine::new(OutSink::new(rt.stderr()), &screen));
     let status = if rt.stdout().is_terminal() {
         let mut out = AfterLine::new(OutSink::new(rt.stdout()), &screen);
-        run_words(alloc, words, &mut inputs, &mut out, &mut notes, &mut disk)?
+        run_and_close(alloc, words, &mut inputs, &mut out, &mut notes, disk)?
     } else {
         let mut out = OutSink::new(rt.stdout());
-        run_words(alloc, words, &mut inputs, &mut out, &mut notes, &mut disk)?
+        run_and_close(alloc, words, &mut inputs, &mut out, &mut notes, disk)?
     };
     end_line(&screen);
     let ended = EndedRun {
-        alloc,
-        words,
+        asked: Asked { alloc, words },
         status,
-        why,
+        why: why.as_ref(),
     };
-    explain_run(rt, &ended, inputs.inputs(), &mut notes);
+    explain(ended, inputs.inputs(), &mut notes);
     Ok(status)
 }
 
@@ -382,12 +269,3 @@ fn answered<N: Sink>(answer: &Answer, notes: &mut N) -> ExitCode {
     let _ = write_note(answer, notes);
     ExitCode::from(status(answer))
 }
-
-// The status of a run that did all, and those of which there is more to say.
-const DONE: u8 = 0;
-
-const INPUT_FAULT: u8 = 3;
-
-const OUTPUT_FAULT: u8 = 4;
-
-const STORE_FAULT: u8 = 5;

@@ -7,7 +7,7 @@ use Rattle.send_model.specs.Command.{Command, Subvol, MkFile, MkDir, MkNod, MkFi
 use Rattle.send_model.specs.Spelling.{attributes_of, body_of, greatest_body}
 use Rattle.send_model.specs.Subvolume.{NodeKind, File, Directory, SymbolicLink, CharacterDevice, BlockDevice, Fifo, Socket, Inode}
 use Rattle.send_commands.specs.Writing.{IsWritable, IsShortEnough, IfSecond}
-use Rattle.sent_model.specs.Sent.{making}
+use Rattle.snapshot_model.specs.Sent.{making}
 use Rattle.inode_commands.specs.Spelled.{CanPush, IsShortPath, HasLength}
 use Rattle.receivable_form.proofs.Frames.{room_of, room_len}
 

@@ -5,7 +5,7 @@ use Rattle.send_model.specs.Command.{Command}
 use Rattle.send_model.specs.Map.{Map}
 use Rattle.send_model.specs.Subvolume.{Inode}
 use Rattle.send_model.specs.Exported.{IsMoment}
-use Rattle.sent_model.specs.Restored.{is_capability, other_xattrs}
+use Rattle.snapshot_model.specs.Restored.{is_capability, other_xattrs}
 use Rattle.send_commands.specs.Writing.{IsWritable, IsShortEnough}
 
 -- A command whose values each version has room for.

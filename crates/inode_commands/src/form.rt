@@ -16,7 +16,8 @@ pub trait Form {
     /// The bytes of a command.
     ghost spelled: { ℕ → meant.Command → List ℕ };
 
-    /// Appends the bytes of a command. Fails for want of memory alone, and then nothing is said of what was appended.
+    /// Appends the bytes of a command. Fails for want of memory alone, and then nothing is said of
+    /// what was appended.
     fn push(&self, command: &Command<'_>, version: u32, to: &mut Blob) -> Result<(), AllocError>
         requires can { CanPush (meaning_of command.now) }
         ensures added { OnOk result

@@ -1,7 +1,7 @@
 // The command that makes an inode.
 ghost use Rattle.std.specs.Prelude.{◌≡◌, ◌++◌, OnOk};
 ghost use Rattle.send_commands.specs.Meaning.{meaning_of};
-ghost use Rattle.sent_model.specs.Sent.{making};
+ghost use Rattle.snapshot_model.specs.Sent.{making};
 ghost use Rattle.inode_commands.specs.Spelled.{IsShortPath, IsSaid};
 
 use crate::form::Form;

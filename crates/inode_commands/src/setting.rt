@@ -3,8 +3,8 @@ ghost use Rattle.std.specs.Prelude.{◌≡◌, ◌==◌, ◌++◌, ◌∷◌, �
 ghost use Rattle.std.specs.List.{AllByRecursion};
 ghost use Rattle.std.specs.Str.{bytes_eq};
 ghost use Rattle.send_model.specs.Command.{SetXattr, Chown, Chmod, Utimes};
-ghost use Rattle.sent_model.specs.Sent.{flags_commands, setting_commands};
-ghost use Rattle.sent_model.specs.Restored.{finishing, is_link_kind, capability, capability_commands};
+ghost use Rattle.snapshot_model.specs.Sent.{flags_commands, setting_commands};
+ghost use Rattle.snapshot_model.specs.Restored.{finishing, is_link_kind, capability, capability_commands};
 ghost use Rattle.inode_tree.specs.Kinds.{kind_of, time_of};
 ghost use Rattle.send_commands.specs.Meaning.{time_of as said_time};
 ghost use Rattle.send_model.specs.Exported.{IsMoment};
@@ -78,7 +78,8 @@ impl<F: Form> Spelling<F> {
         self.push(&Command::SetXattr { name, value, path }, to)
     }
 
-    /// Appends owners, mode, flags and times, in this order: what comes behind the contents of an inode that is sent.
+    /// Appends owners, mode, flags and times, in this order: what comes behind the contents of an
+    /// inode that is sent.
     pub fn settings<R: Origin>(
         &self,
         path: &[u8],
@@ -96,8 +97,8 @@ impl<F: Form> Spelling<F> {
         self.times(path, inode.mtime(), inode.atime(), to)
     }
 
-    /// Appends owners, mode, extended attributes but capabilities, flags and times, in this order: what the real receiver asks for.
-    /// The mode of a plain link is not set.
+    /// Appends owners, mode, extended attributes but capabilities, flags and times, in this order:
+    /// what the real receiver asks for. The mode of a plain link is not set.
     pub fn finishing<R: Origin>(
         &self,
         path: &[u8],
@@ -116,7 +117,8 @@ impl<F: Form> Spelling<F> {
         self.times(path, inode.mtime(), inode.atime(), to)
     }
 
-    /// Appends the capabilities of an inode, if it has them: what the real receiver asks for behind all owners.
+    /// Appends the capabilities of an inode, if it has them: what the real receiver asks for behind
+    /// all owners.
     pub fn capabilities<R: Origin>(
         &self,
         path: &[u8],

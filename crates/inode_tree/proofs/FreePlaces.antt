@@ -1,4 +1,5 @@
--- Names that come to a place only if it is free, and entries that are put back where they were taken from.
+-- Names that come to a place only if it is free, and entries that are put back where they were
+-- taken from.
 use Rattle.std.specs.Prelude.{◌≡◌, ℕ, Bool, true, false, List, Option, None, Some, is_some}
 use Rattle.std.specs.declared.cmp.Ordering.{Ordering}
 use Rattle.std.specs.Cmp.{IsTotalOrder}

@@ -19,7 +19,8 @@ use Rattle.inode_tree.specs.Walked.{Walked, nothing, IsFront, IsKnown, IsRemembe
 use Rattle.inode_tree.proofs.TreeLaws.{none_by}
 use Rattle.inode_tree.proofs.Known.{Grows, GrowsBut, DirectoriesStay, growing_stays, plain_stays, known_grows, known_without, nothing_known, front_learnt, place_stays, walk_finds}
 
--- What an edit left: it keeps the tree, what is remembered still serves, and it is what the definition says.
+-- What an edit left: it keeps the tree, what is remembered still serves, and it is what the
+-- definition says.
 pub record Edited {C : Type 0} (t : Subvolume C) (f : Map ℕ ℕ) (last : Walked) (said : Result (Subvolume C) Refusal) : Type 0 where
   pub tree : IsTree t f
   pub known : IsKnown t last

@@ -17,7 +17,8 @@ use Rattle.inode_tree.specs.Openings.{byte_at, two_at, four_at, eight_at, IsOpen
 abbrev pub Agree : List ℕ → List ℕ → ℕ → ℕ → Type 0
 Agree a b from count = (place : ℕ) → from ≤ place → place < from + count → byte_at a place ≡ byte_at b place
 
--- Within so many places from one on, the first bytes that differ are less in the one list than in the other.
+-- Within so many places from one on, the first bytes that differ are less in the one list than in
+-- the other.
 pub record Below (a b : List ℕ) (from count : ℕ) : Type 0 where
   pub at : ℕ
   pub after : from ≤ at

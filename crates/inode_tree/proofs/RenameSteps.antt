@@ -32,7 +32,8 @@ module _ {C : Type 0} (s : Subvolume C) (path path_to : List ℕ) where
       unfolding rename
       rename_lost refusal e = goes_on (spot s path) _ from at ∙ (finds (at_spot s from) NoEntry _ moved mine ∙ stops (spot s path_to) _ refusal e)
 
--- Both places of a rename were found and a name stands at the first, in a tree that is still the one the rename began with.
+-- Both places of a rename were found and a name stands at the first, in a tree that is still the
+-- one the rename began with.
 pub record AreFound {C : Type 0} (first s : Subvolume C) (path path_to : List ℕ) (from to : Spot) (moved : ℕ) : Type 0 where
   pub same : s ≡ first
   pub at : spot s path ≡ Ok from

@@ -1,5 +1,5 @@
--- Kinds and times of the code as those of the definitions, and with which mode an inode begins. Source: inode(7); the modes
--- are this project's.
+-- Kinds and times of the code as those of the definitions, and with which mode an inode begins.
+-- Source: inode(7); the modes are this project's.
 use Rattle.std.specs.Prelude.{ℕ, List}
 use Rattle.send_model.specs.Attribute.{Time}
 use Rattle.send_model.specs.Subvolume as meant

@@ -1,11 +1,13 @@
--- The first sixteen bytes of a name as two numbers, which compare as the bytes do. Source: this program's own.
+-- The first sixteen bytes of a name as two numbers, which compare as the bytes do. Source: this
+-- program's own.
 use Rattle.std.specs.Prelude.{◌≡◌, ℕ, ◌+◌, ◌*◌, ◌<◌, ◌≤◌, List, take}
 use Rattle.std.specs.Rc.{rc_slice_items}
 use Rattle.std.proofs.Math.ListN.{get_or}
 use Rattle.inode_tree.specs.declared.name.Rest.{Rest}
 use Rattle.inode_tree.specs.declared.name.Rest.TheVariants.{Short, Long}
 
--- The byte at a place, or zero where there is none; two, four and eight bytes from a place on, the first the highest.
+-- The byte at a place, or zero where there is none; two, four and eight bytes from a place on, the
+-- first the highest.
 abbrev pub byte_at : List ℕ → ℕ → ℕ
 byte_at bytes place = get_or bytes place 0
 
@@ -24,7 +26,8 @@ pub record IsOpened (bytes : List ℕ) (first next : ℕ) : Type 0 where
   pub next_is : next ≡ eight_at bytes 8
   pub small : (place : ℕ) → byte_at bytes place < 256
 
--- Sixteen bytes that begin as a list does, with zero bytes behind its end; and how many of them are of it, if all are.
+-- Sixteen bytes that begin as a list does, with zero bytes behind its end; and how many of them are
+-- of it, if all are.
 pub record IsOpening (bytes opening : List ℕ) (len : ℕ) : Type 0 where
   pub same : (place : ℕ) → place < 16 → byte_at opening place ≡ byte_at bytes place
   pub small : (place : ℕ) → byte_at bytes place < 256

@@ -32,7 +32,8 @@ abbrev pub spot_from : {C : Type 0} → Subvolume C → ℕ → List ℕ → Lis
 spot_from s directory name rest =
     walk_names s directory (all_but_last (name ∷ rest)) >>= λ there. require (is_directory s there) meant.NotDirectory >> Ok (record { directory = there; name = last_of name rest })
 
--- A name moves to a place where nothing stood, or nothing changes. What stood there is given, and the value with the name moved.
+-- A name moves to a place where nothing stood, or nothing changes. What stood there is given, and
+-- the value with the name moved.
 abbrev pub MovesIfFree : {S : Type 0} → (was : Option ℕ) (moved old new : S) (free : Bool) → Type 0
 MovesIfFree None moved old new free = (free ≡ true) × (new ≡ moved)
 MovesIfFree (Some there) moved old new free = (free ≡ false) × (new ≡ old)

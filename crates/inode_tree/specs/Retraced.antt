@@ -1,5 +1,5 @@
--- A subvolume whose contents come from origins of their own. Source: this program's own; where the cells of a complete subvolume
--- come from is said by the definitions of provenance in the same way.
+-- A subvolume whose contents come from origins of their own. Source: this program's own; where the
+-- cells of a complete subvolume come from is said by the definitions of provenance in the same way.
 use Rattle.std.specs.Prelude.{ℕ, ◌<◌, ◌≤◌, ◌^◌, Option, length}
 use Rattle.std.specs.List.{AllByRecursion}
 use Rattle.extent_map.specs.Pieces.{run_cells}
@@ -11,7 +11,8 @@ use Rattle.send_model.specs.Provenance.{inode_with, with_cells}
 abbrev pub retraced_inode : {C P : Type 0} → (P → ℕ → P) → (ℕ → P) → ℕ → Inode C → Inode (Option P)
 retraced_inode advanced start ino inode = inode_with inode (run_cells advanced (start ino) (length inode.cells))
 
--- The same inodes, names and next number; the contents of each inode are one run of their old size from the start of its number.
+-- The same inodes, names and next number; the contents of each inode are one run of their old size
+-- from the start of its number.
 abbrev pub retraced : {C P : Type 0} → (P → ℕ → P) → (ℕ → P) → Subvolume C → Subvolume (Option P)
 retraced advanced start s = with_cells (λ ino cells. run_cells advanced (start ino) (length cells)) s
 

@@ -14,7 +14,8 @@ pub record IsTree {C : Type 0} (s : Subvolume C) (further : Map ℕ ℕ) : Type 
   pub sound : IsSound s
   pub counted : (ino : ℕ) → further_names further ino ≡ name_count s ino - 1
 
--- A tree for which memory ran out in the middle of a change is no longer whole, and nothing is said of it.
+-- A tree for which memory ran out in the middle of a change is no longer whole, and nothing is said
+-- of it.
 abbrev pub IsWholeTree : {C : Type 0} → Bool → Subvolume C → Map ℕ ℕ → Type 0
 IsWholeTree true s further = IsTree s further
 IsWholeTree false s further = Unit {0}

@@ -8,8 +8,8 @@ use Rattle.sx_base.specs.declared.refusal.Refusal.{Refusal}
 use Rattle.sx_base.specs.Refusals.{refusal_of}
 use Rattle.inode_tree.specs.Places.{spot_from}
 
--- The bytes in front of the last name of a path, and the directory that they lead to; a path, and where it is known what it
--- leads to.
+-- The bytes in front of the last name of a path, and the directory that they lead to; a path, and
+-- where it is known what it leads to.
 pub record Walked : Type 0 where
   pub front : List ℕ
   pub directory : ℕ
@@ -60,7 +60,8 @@ abbrev pub LearnsPath : Walked → Walked → List ℕ → ℕ → Type 0
 LearnsPath old new path ino =
     (new ≡ record old { path = path; ino = Some ino }) ⊎ (new ≡ record old { path = []; ino = None })
 
--- A name goes or moves: what a path leads to is forgotten, and where the name was a directory's, the front is too.
+-- A name goes or moves: what a path leads to is forgotten, and where the name was a directory's,
+-- the front is too.
 abbrev pub without_name : Bool → Walked → Walked
 without_name true last = record last { front = []; directory = root; ino = None }
 without_name false last = record last { ino = None }
@@ -78,7 +79,8 @@ abbrev pub spot_below : {C : Type 0} → Subvolume C → ℕ → List (List ℕ)
 spot_below s directory [] = Err meant.IsRoot
 spot_below s directory (name ∷ rest) = spot_from s directory name rest
 
--- The names that are left of a path from a directory on give the place that the path names, or the path is refused.
+-- The names that are left of a path from a directory on give the place that the path names, or the
+-- path is refused.
 abbrev pub Begins : {C : Type 0} → Subvolume C → List ℕ → Result (ℕ × List (List ℕ)) Refusal → Type 0
 Begins s path (Ok begin) = spot s path ≡ spot_below s begin.0 begin.1
 Begins s path (Err refusal) = spot s path ≡ Err (refusal_of refusal)

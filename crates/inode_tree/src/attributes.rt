@@ -19,7 +19,8 @@ use sx_base::{Refusal, Stop};
 const LONGEST_XATTR_NAME: usize = 255;
 
 impl<O: Origin> Tree<O> {
-    /// Sets the permission bits to the low twelve bits of a mode, as CHMOD. After `NoMemory` nothing is said of the tree.
+    /// Sets the permission bits to the low twelve bits of a mode, as CHMOD. After `NoMemory`
+    /// nothing is said of the tree.
     ///
     /// # Errors
     /// The refusals of the walk; then nothing changes.
@@ -66,7 +67,8 @@ impl<O: Origin> Tree<O> {
     /// Sets an extended attribute, or replaces it. After `NoMemory` nothing is said of the tree.
     ///
     /// # Errors
-    /// The refusals of the walk, then BadXattr where the name does not have 1 to 255 bytes; then nothing changes.
+    /// The refusals of the walk, then BadXattr where the name does not have 1 to 255 bytes; then
+    /// nothing changes.
     pub fn set_xattr(&mut self, path: &[u8], name: &[u8], value: &[u8]) -> Result<(), Stop>
         ensures { MayChange result self.old self.new
             (edit.set_xattr path.now name.now value.now self.old) }
@@ -82,8 +84,8 @@ impl<O: Origin> Tree<O> {
     /// Removes an extended attribute. After `NoMemory` nothing is said of the tree.
     ///
     /// # Errors
-    /// The refusals of the walk, then BadXattr where the name does not have 1 to 255 bytes, then NoXattr where the inode has no
-    /// such attribute; then nothing changes.
+    /// The refusals of the walk, then BadXattr where the name does not have 1 to 255 bytes, then
+    /// NoXattr where the inode has no such attribute; then nothing changes.
     pub fn remove_xattr(&mut self, path: &[u8], name: &[u8]) -> Result<(), Stop>
         ensures { MayChange result self.old self.new
             (edit.remove_xattr path.now name.now self.old) }
@@ -99,8 +101,9 @@ impl<O: Origin> Tree<O> {
         Ok(())
     }
 
-    /// Exchanges the contents of a file with the given ones, and says whether there is a file of that number; where there is none
-    /// nothing changes. Fails for want of memory alone, and then nothing is said of either.
+    /// Exchanges the contents of a file with the given ones, and says whether there is a file of
+    /// that number; where there is none nothing changes. Fails for want of memory alone, and then
+    /// nothing is said of either.
     pub fn swap_contents(&mut self, ino: u64, contents: &mut Extents<O>) -> Result<bool, AllocError>
         ensures file { IfOk result (λ there. there ≡ is_file self.old ino) }
         ensures tree { IfOk result

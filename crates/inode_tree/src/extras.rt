@@ -143,7 +143,8 @@ impl Extras {
         Ok(())
     }
 
-    // Sets an extended attribute. Fails for want of memory alone, and then nothing is said of the others.
+    // Sets an extended attribute. Fails for want of memory alone, and then nothing is said of the
+    // others.
     pub(crate) fn set_xattr(
         &mut self,
         alloc: Global,
@@ -161,7 +162,8 @@ impl Extras {
         Ok(())
     }
 
-    // Takes an extended attribute out. Fails for want of memory alone, and then nothing is said of the others.
+    // Takes an extended attribute out. Fails for want of memory alone, and then nothing is said of
+    // the others.
     pub(crate) fn remove_xattr(&mut self, name: &[u8]) -> Result<(), AllocError>
         ensures { OnOk result (self.new
             ≡ record self.old { xattrs = without bytes_cmp name.now self.old.xattrs }) }

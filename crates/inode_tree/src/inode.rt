@@ -54,7 +54,8 @@ impl<O: Origin> Model for Inode<O> {
 }
 
 impl<O: Origin> Inode<O> {
-    // A new inode: nothing set but its kind, mode, device number and target. Fails for want of memory alone.
+    // A new inode: nothing set but its kind, mode, device number and target. Fails for want of
+    // memory alone.
     pub(crate) fn new(
         alloc: Global,
         kind: NodeKind,
@@ -188,7 +189,8 @@ impl<O: Origin> Inode<O> {
         Ok(())
     }
 
-    // The same inode, whose contents are one run of their size from an origin. Fails for want of memory alone.
+    // The same inode, whose contents are one run of their size from an origin. Fails for want of
+    // memory alone.
     pub(crate) fn retraced<P: Origin>(
         &self,
         alloc: Global,

@@ -1,4 +1,5 @@
-//! The names, inodes and contents of a subvolume. A copy of a tree shares all that it does not change.
+//! The names, inodes and contents of a subvolume. A copy of a tree shares all that it does not
+//! change.
 #![tactic(auto)]
 
 mod attributes;

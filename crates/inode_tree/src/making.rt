@@ -14,8 +14,9 @@ use shared_map::{Shared, SharedMap};
 use sx_base::{Refusal, Stop};
 
 impl<O: Origin> Tree<O> {
-    /// Makes an inode of a kind under a name, with the next number, and gives that number. MKFILE, MKDIR, MKNOD, MKFIFO,
-    /// MKSOCK and SYMLINK make theirs so. After `NoMemory` nothing is said of the tree.
+    /// Makes an inode of a kind under a name, with the next number, and gives that number. MKFILE,
+    /// MKDIR, MKNOD, MKFIFO, MKSOCK and SYMLINK make theirs so. After `NoMemory` nothing is said of
+    /// the tree.
     ///
     /// # Errors
     /// The first refusal of the making: of the place, EntryThere or NoNumber; then nothing changes.
@@ -54,11 +55,12 @@ impl<O: Origin> Tree<O> {
         Ok(ino)
     }
 
-    /// Gives the inode that `existing` leads to one more name. After `NoMemory` nothing is said of the tree.
+    /// Gives the inode that `existing` leads to one more name. After `NoMemory` nothing is said of
+    /// the tree.
     ///
     /// # Errors
-    /// The first refusal of LINK: BadPath of the new path, those of the walk, IsDirectory, those of the place, EntryThere; then
-    /// nothing changes.
+    /// The first refusal of LINK: BadPath of the new path, those of the walk, IsDirectory, those of
+    /// the place, EntryThere; then nothing changes.
     pub fn link(&mut self, path: &[u8], existing: &[u8]) -> Result<(), Stop>
         ensures { MayChange result self.old self.new (edit.link path.now existing.now self.old) }
     {

@@ -9,8 +9,8 @@ use std::cmp::Ordering;
 use std::marker::Model;
 use std::rc::RcSlice;
 
-/// Bytes that their copies share, seen as their list: the target of a symbolic link, or the name or the value of an extended
-/// attribute.
+/// Bytes that their copies share, seen as their list: the target of a symbolic link, or the name or
+/// the value of an extended attribute.
 #[derive(Debug, Drop)]
 pub struct Bytes {
     // None where there are no bytes, so that these take no memory.
@@ -186,8 +186,9 @@ fn eight_in(bytes: &[u8], place: usize) -> u64
 // How many bytes of a name stand in it.
 const OPENING: usize = 16;
 
-// A name in a directory. Its first sixteen bytes stand in it, so that most comparisons need not look elsewhere, and a name that has no
-// more takes no memory. Copies of a longer one share its bytes.
+// A name in a directory. Its first sixteen bytes stand in it, so that most comparisons need not
+// look elsewhere, and a name that has no more takes no memory. Copies of a longer one share its
+// bytes.
 #[derive(Debug, Drop)]
 pub(crate) struct Name {
     directory: u64,

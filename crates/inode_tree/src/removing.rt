@@ -13,8 +13,9 @@ use std::alloc::AllocError;
 use sx_base::{Refusal, Stop};
 
 impl<O: Origin> Tree<O> {
-    /// Takes away a name that is not a directory's, and with its last name the inode. After `NoMemory` nothing is said of the
-    /// tree: what a snapshot shares is copied before it is changed.
+    /// Takes away a name that is not a directory's, and with its last name the inode. After
+    /// `NoMemory` nothing is said of the tree: what a snapshot shares is copied before it is
+    /// changed.
     ///
     /// # Errors
     /// The first refusal of UNLINK: those of the place, NoEntry, IsDirectory; then nothing changes.
@@ -25,11 +26,12 @@ impl<O: Origin> Tree<O> {
         self.take_plain(&place)
     }
 
-    /// Takes away an empty directory. After `NoMemory` nothing is said of the tree: what a snapshot shares is copied before it is
-    /// changed.
+    /// Takes away an empty directory. After `NoMemory` nothing is said of the tree: what a snapshot
+    /// shares is copied before it is changed.
     ///
     /// # Errors
-    /// The first refusal of RMDIR: those of the place, NoEntry, NotDirectory, NotEmpty; then nothing changes.
+    /// The first refusal of RMDIR: those of the place, NoEntry, NotDirectory, NotEmpty; then
+    /// nothing changes.
     pub fn rmdir(&mut self, path: &[u8]) -> Result<(), Stop>
         ensures { MayChange result self.old self.new (edit.rmdir path.now self.old) }
     {
@@ -61,7 +63,8 @@ impl<O: Origin> Tree<O> {
         next.0.directory() != ino
     }
 
-    // The name at a place goes, and with its last name the inode. Where that is a directory, both come back.
+    // The name at a place goes, and with its last name the inode. Where that is a directory, both
+    // come back.
     fn take_plain(&mut self, place: &Place<'_>) -> Result<(), Stop>
         ensures { MayChange result self.old self.new (unlink_at (spot_of place.now) self.old) }
     {
@@ -94,7 +97,8 @@ impl<O: Origin> Tree<O> {
         Ok(())
     }
 
-    // A name of an inode with no names in it goes, and with its last name the inode. It is a directory or not.
+    // A name of an inode with no names in it goes, and with its last name the inode. It is a
+    // directory or not.
     pub(crate) fn take_name(
         &mut self,
         place: &Place<'_>,

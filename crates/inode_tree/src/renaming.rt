@@ -15,12 +15,13 @@ use std::alloc::AllocError;
 use sx_base::{Refusal, Stop};
 
 impl<O: Origin> Tree<O> {
-    /// Moves a name. What stands at the new place gives way; where that is the same inode, both names stay. After `NoMemory`
-    /// nothing is said of the tree.
+    /// Moves a name. What stands at the new place gives way; where that is the same inode, both
+    /// names stay. After `NoMemory` nothing is said of the tree.
     ///
     /// # Errors
-    /// The first refusal of RENAME: those of the place, NoEntry, those of the new place, IntoItself, and where another inode
-    /// stands there NotDirectory, IsDirectory or NotEmpty; then nothing changes.
+    /// The first refusal of RENAME: those of the place, NoEntry, those of the new place,
+    /// IntoItself, and where another inode stands there NotDirectory, IsDirectory or NotEmpty; then
+    /// nothing changes.
     pub fn rename(&mut self, path: &[u8], path_to: &[u8]) -> Result<(), Stop>
         ensures { MayChange result self.old self.new (edit.rename path.now path_to.now self.old) }
     {

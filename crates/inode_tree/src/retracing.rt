@@ -11,8 +11,9 @@ use shared_map::{Shared, SharedMap};
 use std::alloc::{AllocError, Global};
 
 impl<O: Origin> Tree<O> {
-    /// A tree of the same inodes and names, where the contents of each inode are one run of their old size from the start of its
-    /// number. It shares the names, and no inode. Fails for want of memory alone.
+    /// A tree of the same inodes and names, where the contents of each inode are one run of their
+    /// old size from the start of its number. It shares the names, and no inode. Fails for want of
+    /// memory alone.
     pub fn retraced<P: Origin, S: Starts<P>>(&self, starts: &S) -> Result<Tree<P>, AllocError>
         requires { AreReached P.reach (S.starts starts.now) self.now.inodes }
         ensures { IfOk result (λ tree. tree ≡ retraced P.advanced (S.starts starts.now) self.now) }

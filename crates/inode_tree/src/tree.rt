@@ -20,8 +20,8 @@ use std::alloc::{AllocError, Global};
 use std::marker::Model;
 use sx_base::Refusal;
 
-/// The inodes and names of a subvolume, seen as that of the definitions over cells that are an origin or zero. A copy shares
-/// all that neither changes.
+/// The inodes and names of a subvolume, seen as that of the definitions over cells that are an
+/// origin or zero. A copy shares all that neither changes.
 #[derive(Debug, Drop)]
 pub struct Tree<O: Origin> {
     pub(crate) inodes: SharedMap<u64, Shared<Inode<O>>>,
@@ -32,7 +32,8 @@ pub struct Tree<O: Origin> {
     pub(crate) alloc: Global,
     // How many inodes were copied, and not shared, to change them.
     pub(crate) copied: u64,
-    // Whether no call ran out of memory in the middle of a change. After that each change answers want of memory.
+    // Whether no call ran out of memory in the middle of a change. After that each change answers
+    // want of memory.
     pub(crate) whole: bool,
     // Where the last walks led, while the tree is whole.
     pub(crate) last: LastWalks,
@@ -101,8 +102,8 @@ impl<O: Origin> Tree<O> {
         }
     }
 
-    /// How many inodes were copied since the tree was made, because a change met one that another tree shares. At the greatest u64
-    /// it stays. Takes no memory.
+    /// How many inodes were copied since the tree was made, because a change met one that another
+    /// tree shares. At the greatest u64 it stays. Takes no memory.
     pub fn copied(&self) -> u64 {
         self.copied
     }
@@ -129,8 +130,8 @@ impl<O: Origin> Tree<O> {
         Some(*number)
     }
 
-    /// The least name above the given one, by the number of its directory and then by its bytes: the directory, the name, and
-    /// the inode number that it names. Takes no memory.
+    /// The least name above the given one, by the number of its directory and then by its bytes:
+    /// the directory, the name, and the inode number that it names. Takes no memory.
     pub fn name_after(&self, directory: u64, name: &[u8]) -> Option<(u64, &[u8], u64)>
         ensures { option_map (λ n. ((n.0, n.1.now), n.2)) result
             ≡ entry_after named_cmp (directory, name.now) self.now.names }
@@ -159,7 +160,8 @@ impl<O: Origin> Tree<O> {
         }
     }
 
-    /// The number of the inode that a path leads to, from where the walk before came by if that serves; and remembers this walk.
+    /// The number of the inode that a path leads to, from where the walk before came by if that
+    /// serves; and remembers this walk.
     ///
     /// # Errors
     /// The refusal of the walk: BadPath, NotDirectory or NoEntry.
@@ -309,8 +311,8 @@ impl<O: Origin> Tree<O> {
         None
     }
 
-    // Where the walk to the place of a path may begin, and the names from there on: at the remembered directory, if the path goes
-    // on behind the remembered front, or at the root.
+    // Where the walk to the place of a path may begin, and the names from there on: at the
+    // remembered directory, if the path goes on behind the remembered front, or at the root.
     fn begin<'p>(&self, path: &'p [u8]) -> Result<(u64, Parts<'p>), Refusal>
         ensures { Begins self.now path.now result }
     {

@@ -11,8 +11,9 @@ pub(crate) const ROOT: u64 = 256;
 // The most bytes that a path has. Source: PATH_MAX of Linux, less the zero byte at its end.
 const LONGEST_PATH: usize = 4_095;
 
-// The last path with more than one name, as far as the directory of its last name, and the last path that led to an inode. The room
-// for their bytes is kept from walk to walk; where there is no memory for them, less is remembered.
+// The last path with more than one name, as far as the directory of its last name, and the last
+// path that led to an inode. The room for their bytes is kept from walk to walk; where there is no
+// memory for them, less is remembered.
 #[derive(Debug, Drop)]
 pub(crate) struct LastWalks {
     // The bytes in front of a path's last name, and the directory that they lead to.

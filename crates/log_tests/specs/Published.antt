@@ -1,4 +1,5 @@
--- Groups whose bodies are made of pieces, and what a crash may leave while they are published one after the other.
+-- Groups whose bodies are made of pieces, and what a crash may leave while they are published one
+-- after the other.
 use Rattle.std.specs.Prelude.{ℕ, List, ◌++◌, take, map, flat_map, Vec}
 use Rattle.std.specs.declared.alloc.Global.{Global}
 use Rattle.store_model.specs.Image.{Header, HasGroups, sealed}

@@ -1,5 +1,6 @@
-// A caller of the log, which shows that its contract is one to build on: groups of several pieces are published one
-// after the other, and what is said of all of them follows from what the log says of each call.
+// A caller of the log, which shows that its contract is one to build on: groups of several pieces
+// are published one after the other, and what is said of all of them follows from what the log says
+// of each call.
 ghost use Rattle.std.specs.Prelude.{◌≡◌, ◌⊎◌, ℕ, ◌+◌, ◌≤◌, List, [], ◌∷◌, ◌++◌, length, take, IfOk, OnOk};
 ghost use Rattle.sx_base.specs.Disk.{IsImage};
 ghost use Rattle.sx_base.specs.Crash.{LeavesOnly};
@@ -96,7 +97,8 @@ pub(crate) fn publish_all<D: Disk>(
         Rests header bodies log.old (D.seen disk.old) (D.pending disk.old) →
         OnOk result (take log.old.gate (D.seen disk.new) ≡ take log.old.gate (D.seen disk.old)) }
 
-    // Since the call began each image has the earlier groups and the first of the new ones, however many.
+    // Since the call began each image has the earlier groups and the first of the new ones, however
+    // many.
     ensures any_moment { D.tells → (header : Header) (bodies : List (List ℕ)) →
         Rests header bodies log.old (D.seen disk.old) (D.pending disk.old) →
         LeavesOnly D.moment D.left_since disk.old disk.new

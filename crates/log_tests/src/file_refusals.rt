@@ -1,5 +1,5 @@
-// What no clause says: that opening a file as a disk leaves what is there, that places go beyond 4 GiB, and that a sync that was not
-// done is not told as done.
+// What no clause says: that opening a file as a disk leaves what is there, that places go beyond 4
+// GiB, and that a sync that was not done is not told as done.
 use crate::file_tests::{all_fails, cut_to, expect_at, in_use, no_file, put};
 use crate::same::same;
 use file_disk::{FileDisk, ROOM};

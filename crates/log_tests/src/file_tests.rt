@@ -27,7 +27,8 @@ fn no_calls() -> Calls {
     }
 }
 
-// A file that takes few bytes at once, and none behind a place, as on a full device; it counts the calls to it.
+// A file that takes few bytes at once, and none behind a place, as on a full device; it counts the
+// calls to it.
 #[derive(Drop)]
 struct Small<'a> {
     file: File,

@@ -80,7 +80,8 @@ fn expect_groups(
     Ok(())
 }
 
-// Crashes at each call that publishing two groups makes, on a disk with these bytes and so many groups.
+// Crashes at each call that publishing two groups makes, on a disk with these bytes and so many
+// groups.
 fn crash_at_each_call(
     rt: &impl Abort,
     alloc: Global,
@@ -111,7 +112,8 @@ fn a_crash_leaves_whole_groups(rt: HostRuntime) -> Result<(), Fail> {
     crash_at_each_call(&rt, alloc, FIRST, 1)
 }
 
-// Publishes two groups with each call alone that fails, and opens the log again on the disk that goes on.
+// Publishes two groups with each call alone that fails, and opens the log again on the disk that
+// goes on.
 fn fault_at_each_call(
     rt: &impl Abort,
     alloc: Global,
@@ -214,7 +216,8 @@ fn each_fault_of_a_group_has_its_number(rt: HostRuntime) -> Result<(), Fail> {
     Ok(())
 }
 
-// Adds a group to a log at its end, and reads seven bytes from this place on. Gives the format and the first group.
+// Adds a group to a log at its end, and reads seven bytes from this place on. Gives the format and
+// the first group.
 fn added(
     disk: &mut MemDisk,
     at: u64,

@@ -1,4 +1,5 @@
-//! Tests of the calls of `disk_model`, `file_disk` and `group_log`, and a caller of the log that they run. Nothing stands here but tests.
+//! Tests of the calls of `disk_model`, `file_disk` and `group_log`, and a caller of the log that
+//! they run. Nothing stands here but tests.
 #![tactic(auto)]
 
 #[cfg(test)]

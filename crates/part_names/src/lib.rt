@@ -1,10 +1,13 @@
-//! Other names for the parts of files, in place of those that their heads have.
+//! What is said in front of files: another name for the parts of a file, and the CTRANSIDs that are
+//! meant where it names subvolumes.
 #![tactic(auto)]
 
 mod named_files;
-mod names;
-mod renaming;
+mod overrides;
+mod overriding;
+mod parent;
 
 pub use named_files::{NamedFile, NamedFiles};
-pub use names::PartNames;
-pub use renaming::{given_or, rename, rename_command};
+pub use overrides::{FileOverride, Overrides};
+pub use overriding::{given_or, override_command, override_item};
+pub use parent::Parent;

@@ -1,4 +1,5 @@
--- The entries above a key: the first of them, and those above that; all entries of lawful names stand above the least place.
+-- The entries above a key: the first of them, and those above that; all entries of lawful names
+-- stand above the least place.
 use Rattle.std.specs.Prelude.{◌≡◌, ℕ, ◌<◌, ◌≤◌, Bool, true, false, cond, ◌&&◌, T, List, [], ◌∷◌, length}
 use Rattle.std.specs.declared.cmp.Ordering.{Ordering}
 use Rattle.std.specs.declared.cmp.Ordering.TheVariants.{Less, Equal, Greater}

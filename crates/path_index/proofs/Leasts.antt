@@ -1,4 +1,5 @@
--- The least of the paths that end with the names seen so far, and what it is once all names of an inode were seen.
+-- The least of the paths that end with the names seen so far, and what it is once all names of an
+-- inode were seen.
 use Rattle.std.specs.Prelude.{◌≡◌, ◌≢◌, ℕ, true, false, List, [], ◌∷◌, ◌++◌, Option, None, Some, Ok, is_some}
 use Rattle.std.specs.declared.cmp.Ordering.{Ordering}
 use Rattle.std.specs.declared.cmp.Ordering.TheVariants.{Less, Equal, Greater}
@@ -125,7 +126,8 @@ module _ {C : Type 0} (s : Subvolume C) where
       empty_first [] e = cc
       empty_first (b ∷ path) e = cc
 
-  -- A path leads to an inode where one ends at one of its places, and where one ends at none, none does.
+  -- A path leads to an inode where one ends at one of its places, and where one ends at none, none
+  -- does.
   pub nameable : FirstPathsAreLeast s → (ino : ℕ) (path : List ℕ) → walk s path ≡ Ok ino → is_nameable s ino ≡ true
   unfolding IsNameable
   nameable law ino path w = law.named ino (path, w)

@@ -1,4 +1,5 @@
--- The way up from a name, directory by directory: the bytes of the names passed so far end each path that ends with the name.
+-- The way up from a name, directory by directory: the bytes of the names passed so far end each
+-- path that ends with the name.
 use Rattle.std.specs.Prelude.{◌≡◌, ℕ, ◌+◌, ◌<◌, ◌≤◌, Bool, true, false, cond, List, [], ◌∷◌, ◌++◌, length, Some}
 use Rattle.std.specs.Ordering.{eq_by_cmp}
 use Rattle.std.specs.Cmp.{Equal-is}
@@ -81,8 +82,9 @@ module _ {C : Type 0} (s : Subvolume C) where
 
   -- ---- the way up
 
-  -- The names passed so far lead from a directory to the place, and the bytes are they and the place's name; each way from the root
-  -- to the place passes this directory and ends with these names.
+  -- The names passed so far lead from a directory to the place, and the bytes are they and the
+  -- place's name; each way from the root to the place passes this directory and ends with these
+  -- names.
   pub record Up (place : ℕ × List ℕ) (directory : ℕ) (bytes : List ℕ) : Type 0 where
     pub passed : List (List ℕ)
     pub some : 1 ≤ length bytes

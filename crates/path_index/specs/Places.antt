@@ -6,7 +6,8 @@ use Rattle.std.specs.List.{filter}
 use Rattle.send_model.specs.Map.{Map, value_at}
 use Rattle.send_model.specs.Subvolume.{Subvolume, IsLawful}
 
--- Where the names of an inode stand: the directory of each and the name itself, in the order of the names.
+-- Where the names of an inode stand: the directory of each and the name itself, in the order of the
+-- names.
 abbrev pub places_of : Map (ℕ × List ℕ) ℕ → ℕ → List (ℕ × List ℕ)
 places_of names ino = map (λ e. e.0) (filter (λ e. e.1 == ino) names)
 

@@ -3,7 +3,8 @@ use Rattle.std.specs.Prelude.{◌≡◌, ◌⊎◌, ℕ, Bool, true, false, List
 use Rattle.send_model.specs.Path.{path_names}
 use Rattle.send_model.specs.Subvolume.{Subvolume, root, walk_names, lesser}
 
--- A path of which the last name stands at a place: the names before it lead to the directory of the place.
+-- A path of which the last name stands at a place: the names before it lead to the directory of the
+-- place.
 pub record EndsAt {C : Type 0} (s : Subvolume C) (place : ℕ × List ℕ) (path : List ℕ) : Type 0 where
   pub before : List (List ℕ)
   pub names_are : path_names path ≡ Some (before ++ place.1 ∷ [])

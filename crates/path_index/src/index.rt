@@ -23,7 +23,8 @@ const ROOT: u64 = 256;
 // How many bytes a path has at most.
 const LONGEST_PATH: usize = 4095;
 
-/// A complete subvolume with its inodes' names by their numbers, seen as the subvolume. It is lawful.
+/// A complete subvolume with its inodes' names by their numbers, seen as the subvolume. It is
+/// lawful.
 #[derive(Debug, Drop)]
 pub struct PathIndex<O: Origin> {
     sub: Subvol<O>,
@@ -43,7 +44,8 @@ impl<O: Origin> Model for PathIndex<O> {
 }
 
 impl<O: Origin> PathIndex<O> {
-    /// Makes the index of a subvolume, in time that grows with its names. Fails for want of memory alone.
+    /// Makes the index of a subvolume, in time that grows with its names. Fails for want of memory
+    /// alone.
     pub fn new(alloc: Global, sub: Subvol<O>) -> Result<PathIndex<O>, AllocError>
         requires lawful { IsLawful sub }
         ensures { IfOk result (λ index. index ≡ sub) }
@@ -60,8 +62,9 @@ impl<O: Origin> PathIndex<O> {
         &self.sub
     }
 
-    /// The least path by bytes of those that lead to an inode, or None where none does. Takes time that grows with the names of the
-    /// inode and of the directories above it. Fails for want of memory alone.
+    /// The least path by bytes of those that lead to an inode, or None where none does. Takes time
+    /// that grows with the names of the inode and of the directories above it. Fails for want of
+    /// memory alone.
     pub fn first_path(&self, alloc: Global, ino: u64) -> Result<Option<Blob>, AllocError>
         ensures first { IfOk result (λ path. path ≡ first_path self.now ino) }
         ensures short { IfOk result (λ found. IfSome found (λ path. length path ≤ 4095)) }
@@ -102,7 +105,8 @@ impl<O: Origin> PathIndex<O> {
         false
     }
 
-    // Whether the path that ends with a name is no longer than a path may be. None of it is written.
+    // Whether the path that ends with a name is no longer than a path may be. None of it is
+    // written.
     fn has_path(&self, link: &Link) -> bool
         requires there { IsTrue (is_some (named self.now link.now.0 link.now.1)) }
         ensures { HasWay self.now link.now result }
@@ -141,8 +145,8 @@ impl<O: Origin> PathIndex<O> {
         }
     }
 
-    // Writes the path that ends with a name at the end of the buffer, and gives the place where it begins; None where it is longer
-    // than a path may be.
+    // Writes the path that ends with a name at the end of the buffer, and gives the place where it
+    // begins; None where it is longer than a path may be.
     fn write_path(&self, link: &Link, buffer: &mut [u8]) -> Option<usize>
         requires room { length buffer.old ≡ 4095 }
         requires there { IsTrue (is_some (named self.now link.now.0 link.now.1)) }

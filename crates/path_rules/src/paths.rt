@@ -49,10 +49,12 @@ impl<'a> Iterator for Parts<'a> {
     }
 }
 
-/// The names of a path: an iterator over those between the `/`, and over none for the empty path, which is the root.
+/// The names of a path: an iterator over those between the `/`, and over none for the empty path,
+/// which is the root.
 ///
 /// # Errors
-/// `BadPath` exactly where the path is longer than 4,095 bytes, or is not empty and one of its names is not `name_ok`.
+/// `BadPath` exactly where the path is longer than 4,095 bytes, or is not empty and one of its
+/// names is not `name_ok`.
 pub fn split(path: &[u8]) -> Result<Parts<'_>, BadPath>
     ensures { MatchResult result (λ names. path_names path.now ≡ Some names)
         (λ _. path_names path.now ≡ None) }

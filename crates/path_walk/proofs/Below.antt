@@ -16,8 +16,8 @@ use Rattle.send_model.proofs.PathLaws.{path_by_pieces, path_names_pieces, path_n
 use Rattle.send_model.proofs.FirstPaths.{slashes_append}
 use Rattle.send_model.proofs.MapLaws.{named_cmp_total, named_cmp_exact}
 use Rattle.send_model.proofs.LeastPaths.{all_at, found_entry, name_has_no_slash, no_slash_alone, join_names, joined}
-use Rattle.sent_model.proofs.SentPaths.{Walked, walked, walks_to}
-use Rattle.sent_model.proofs.SentWalks.{Ends, AtNone, AtLast, ends, leads_last, above}
+use Rattle.snapshot_model.proofs.SentPaths.{Walked, walked, walks_to}
+use Rattle.snapshot_model.proofs.SentWalks.{Ends, AtNone, AtLast, ends, leads_last, above}
 use Rattle.path_walk.specs.Ahead.{IsEntry}
 use Rattle.path_walk.specs.Passing.{IsAfter}
 

@@ -1,4 +1,5 @@
--- The least of the paths ahead is the next of all paths; what stands ahead once it was passed, and which first paths are known then.
+-- The least of the paths ahead is the next of all paths; what stands ahead once it was passed, and
+-- which first paths are known then.
 use Rattle.std.specs.Prelude.{◌≡◌, ◌⊎◌, ℕ, zero, suc, ◌≤◌, ◌<◌, Bool, true, false, List, [], ◌∷◌, length, Option, None, Some, Ok, if◌then◌else◌}
 use Rattle.std.specs.declared.cmp.Ordering.{Ordering}
 use Rattle.std.specs.declared.cmp.Ordering.TheVariants.{Less, Equal, Greater}
@@ -15,14 +16,14 @@ use Rattle.send_model.specs.Map.{Map, bytes_cmp, value_at, with_value, without}
 use Rattle.send_model.specs.Subvolume.{Subvolume, IsLawful, walk, walk_names, first_path, is_directory}
 use Rattle.shared_map.specs.Sought.{entry_after}
 use Rattle.shared_map.specs.Edited.{PutsNew}
-use Rattle.sent_model.specs.Listing.{listed, paths_of}
+use Rattle.snapshot_model.specs.Listing.{listed, paths_of}
 use Rattle.send_model.proofs.Fuel.{ok_same}
 use Rattle.send_model.proofs.Sorts.{same_inside}
 use Rattle.send_model.proofs.MapLaws.{cases_key, with_value-here, with_value-other, without-order, without-here, without-other}
 use Rattle.send_model.proofs.LeastPaths.{first_path_there, first_path_is_first, first_is_first_path}
 use Rattle.send_model.proofs.Stores.{bytes_eq_same}
-use Rattle.sent_model.proofs.SentWalks.{names_path, one_way}
-use Rattle.sent_model.proofs.SentPaths.{walked, paths_ordered, path_found_walks, walked_path_found}
+use Rattle.snapshot_model.proofs.SentWalks.{names_path, one_way}
+use Rattle.snapshot_model.proofs.SentPaths.{walked, paths_ordered, path_found_walks, walked_path_found}
 use Rattle.path_walk.specs.Ahead.{IsEntry, Grows, HasEntries}
 use Rattle.path_walk.specs.Passing.{Passed, StepsOn, earlier, IsAfter, IsAhead, AreFirsts, Learns, IsKnown, IsPassed}
 use Rattle.path_walk.proofs.Least.{IsLeastAbove, least_above, none_above, is_least, is_none}

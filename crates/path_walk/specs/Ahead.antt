@@ -1,4 +1,5 @@
--- Paths with the inodes that they lead to, as they are found below paths of directories. This program's own.
+-- Paths with the inodes that they lead to, as they are found below paths of directories. This
+-- program's own.
 use Rattle.std.specs.Prelude.{◌≡◌, ◌⊎◌, ℕ, ◌<◌, ◌≤◌, List, length, Option, None, Some, Ok}
 use Rattle.send_model.specs.Path.{longest_path}
 use Rattle.send_model.specs.Map.{Map, IsMap, bytes_cmp, value_at}

@@ -6,7 +6,7 @@ use Rattle.std.specs.Str.{bytes_eq}
 use Rattle.send_model.specs.Map.{Map, IsMap, bytes_cmp, value_at}
 use Rattle.send_model.specs.Subvolume.{Subvolume, IsLawful, walk, first_path, is_directory}
 use Rattle.shared_map.specs.Sought.{entry_after}
-use Rattle.sent_model.specs.Listing.{listed, paths_of}
+use Rattle.snapshot_model.specs.Listing.{listed, paths_of}
 use Rattle.path_walk.specs.Ahead.{IsEntry}
 
 -- A subvolume, and the path that was passed last.
@@ -33,7 +33,8 @@ earlier p ino = if bytes_eq p.at (listed p.subvolume ino).first then None else S
 abbrev pub IsAfter : List ℕ → List ℕ → Type 0
 IsAfter path other = bytes_cmp path other ≡ Less
 
--- Paths after one that was passed: each leads somewhere, and those of all entries of directories that were passed are there.
+-- Paths after one that was passed: each leads somewhere, and those of all entries of directories
+-- that were passed are there.
 pub record IsAhead {C : Type 0} (s : Subvolume C) (at : List ℕ) (ahead : Map (List ℕ) ℕ) : Type 0 where
   pub ordered : IsMap bytes_cmp ahead
   pub leads : (path : List ℕ) (ino : ℕ) → value_at bytes_cmp path ahead ≡ Some ino → (walk s path ≡ Ok ino) × IsAfter at path

@@ -13,8 +13,8 @@ use sx_base::Blob;
 // How many bytes a path has at most.
 const LONGEST_PATH: usize = 4095;
 
-// Adds the paths of the entries of the directory that a path leads to. Where that is no directory, there are none. Fails for want of
-// memory alone, and then some of them were added.
+// Adds the paths of the entries of the directory that a path leads to. Where that is no directory,
+// there are none. Fails for want of memory alone, and then some of them were added.
 pub(crate) fn add_entries<O: Origin>(
     alloc: Global,
     tree: &Tree<O>,

@@ -16,7 +16,8 @@ use sx_base::Blob;
 // The number of the root of each subvolume.
 const ROOT: u64 = 256;
 
-/// The paths of a lawful subvolume, seen as the subvolume and the last path that was passed; at first this is the root's.
+/// The paths of a lawful subvolume, seen as the subvolume and the last path that was passed; at
+/// first this is the root's.
 #[derive(Debug, Drop)]
 pub struct Paths<'a, O: Origin> {
     tree: &'a Tree<O>,
@@ -57,8 +58,8 @@ impl<'a, O: Origin> Paths<'a, O> {
         })
     }
 
-    /// Passes the next path, and gives the number of the inode that it leads to, or None where none is left. Fails for want of memory
-    /// alone, and then no path is passed.
+    /// Passes the next path, and gives the number of the inode that it leads to, or None where none
+    /// is left. Fails for want of memory alone, and then no path is passed.
     pub fn next(&mut self) -> Result<Option<u64>, AllocError>
         ensures steps { IfOk result (StepsOn self.old self.new) }
         ensures same { OnErr result (self.new ≡ self.old) }
@@ -83,7 +84,8 @@ impl<'a, O: Origin> Paths<'a, O> {
         self.at.as_slice()
     }
 
-    /// The first path of the inode that the path which was passed last leads to, or None where it is this one. Takes no memory.
+    /// The first path of the inode that the path which was passed last leads to, or None where it
+    /// is this one. Takes no memory.
     pub fn earlier(&self, ino: u64) -> Option<&[u8]>
         requires there { walk self.now.subvolume self.now.at ≡ Ok ino }
         ensures { option_map (λ first. first.now) result ≡ earlier self.now ino }
@@ -96,8 +98,8 @@ impl<'a, O: Origin> Paths<'a, O> {
     }
 }
 
-// Keeps the path of an inode that is no directory, unless one is known already. Fails for want of memory alone, and then nothing
-// changes.
+// Keeps the path of an inode that is no directory, unless one is known already. Fails for want of
+// memory alone, and then nothing changes.
 fn learn<O: Origin>(
     tree: &Tree<O>,
     ino: u64,

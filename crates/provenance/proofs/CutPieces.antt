@@ -1,4 +1,5 @@
--- What a range is cut into is what the definitions of provenance cut it into, where the ends of outside files are those of a store.
+-- What a range is cut into is what the definitions of provenance cut it into, where the ends of
+-- outside files are those of a store.
 use Rattle.std.specs.Prelude.{◌≡◌, ℕ, zero, suc, ◌+◌, ◌%◌, ◌==◌, Bool, true, false, ◌&&◌, ◌||◌, List, [], ◌∷◌, map, length, take, drop, Option, None, Some, if◌then◌else◌}
 use Rattle.std.proofs.Common.{refl, sym, ap, ap₂, ◌∙◌, arith, length-append}
 use Rattle.std.proofs.lemmas.List.{length-map, take-map, drop-map}

@@ -1,4 +1,5 @@
--- One step over a range: the cells in front come from successive places, or none has a place, as far as they go.
+-- One step over a range: the cells in front come from successive places, or none has a place, as
+-- far as they go.
 use Rattle.std.specs.Prelude.{◌≡◌, ◌⊎◌, ℕ, ◌+◌, ◌-◌, ◌*◌, ◌/◌, ◌%◌, ◌<◌, ◌≤◌, ◌==◌, Bool, true, false, ◌&&◌, List, ◌∷◌, length, take, drop, get_or, Option, None, Some, if◌then◌else◌}
 use Rattle.std.proofs.Common.{refl, sym, ap, ap₂, subst, ◌∙◌, arith, inl, inr, eqb-true, eq-eqb, min}
 use Rattle.std.proofs.lemmas.Bool.{and_parts, eqb-false, false≢true}
@@ -11,8 +12,8 @@ use Rattle.provenance.specs.Cuts.{carrier, Run, Rest, join_cut, cuts_of, Follows
 use Rattle.provenance.proofs.CutLaws.{after_twice, succeed_at, IsCarried, carried, serving, none_from, first_is, one_block, Never, passed, ran, whole_run, begun, begun_rest}
 
 module _ (ends : Key → ℕ → Option ℕ) where
-  -- A block that begins in a stretch, of whose cells it has fewer than a block's, is not carried: it goes on after the stretch, or
-  -- ends where its file does not.
+  -- A block that begins in a stretch, of whose cells it has fewer than a block's, is not carried:
+  -- it goes on after the stretch, or ends where its file does not.
   tail : (p : Place) (k c end : ℕ) (cells : List (Option Place)) → c ≤ k → k < c + 4096 → k ≤ length cells → Stops (Some p) k cells → ends p.key p.ino ≡ Some end
       → (k ≡ length cells → p.offset + k ≡ end → ⊥) → (q : Place) → place_after p c ≡ q → carrier ends (take block_len (drop c cells)) ≡ Some q → ⊥
   tail p k c end cells from below within stops is other q same e = one (serving ends (ends q'.key q'.ino) q' (length block) h.can)
@@ -53,7 +54,8 @@ module _ (ends : Key → ℕ → Option ℕ) where
               three : (k ≡ length cells → ⊥) → k < length cells
               three off = omega (arith, within, off)
 
-  -- How many cells of a stretch a file serves: all, where both end together, or else the whole blocks.
+  -- How many cells of a stretch a file serves: all, where both end together, or else the whole
+  -- blocks.
   pub record IsServed (o : Option ℕ) (p : Place) (k n c : ℕ) : Type 0 where
     pub end : ℕ
     pub is : o ≡ Some end

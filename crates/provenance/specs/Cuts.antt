@@ -1,6 +1,7 @@
--- How a range of cells is cut into runs of carried blocks and stretches of other bytes, where all that is known of a cell is its
--- outside place, and all that is known of an outside file is its end. With a store and its bytes it is what the definitions of
--- provenance cut a range into. This program's own.
+-- How a range of cells is cut into runs of carried blocks and stretches of other bytes, where all
+-- that is known of a cell is its outside place, and all that is known of an outside file is its
+-- end. With a store and its bytes it is what the definitions of provenance cut a range into. This
+-- program's own.
 use Rattle.std.specs.Prelude.{◌≡◌, ℕ, ◌+◌, ◌-◌, ◌<◌, ◌≤◌, get_or, IfSome, ◌%◌, ◌==◌, Bool, true, false, ◌&&◌, ◌||◌, List, [], ◌∷◌, map, length, Option, None, Some, if◌then◌else◌}
 use Rattle.send_model.specs.Subvolume.{Subvolume, is_file, is_nameable}
 use Rattle.send_model.specs.Clone.{block_len, cells_of}
@@ -24,7 +25,8 @@ abbrev pub succeed : Place → List (Option Place) → Bool
 succeed place [] = true
 succeed place (c ∷ cells) = is_at c place && succeed (next_place place) cells
 
--- A block of a length may be cloned from a place of a file with an end: it begins a block there, and is whole or ends there too.
+-- A block of a length may be cloned from a place of a file with an end: it begins a block there,
+-- and is whole or ends there too.
 abbrev pub may_serve : Option ℕ → Place → ℕ → Bool
 may_serve None place len = false
 may_serve (Some end) place len = (place.offset % block_len == 0) && ((len == block_len) || (place.offset + len == end))
@@ -61,7 +63,8 @@ cuts_of ends at cells = cuts_from ends at (blocks cells)
 abbrev pub cuts_between : (Key → ℕ → Option ℕ) → List (Option Trace) → ℕ → ℕ → List Cut
 cuts_between ends contents at end = cuts_of ends at (map place_in (cells_between at (end - at) contents))
 
--- The place of a cell so many cells after one with a place. After one without a place there is none.
+-- The place of a cell so many cells after one with a place. After one without a place there is
+-- none.
 abbrev pub later : Option Place → ℕ → Option Place
 later None k = None
 later (Some place) k = Some (place_after place k)
@@ -74,8 +77,8 @@ Follows first len cells = (i : ℕ) → i < len → get_or cells i None ≡ late
 abbrev pub Stops : Option Place → ℕ → List (Option Place) → Type 0
 Stops first len cells = IfSome first (λ place. len < length cells → get_or cells len None ≡ Some (place_after place len) → ⊥)
 
--- How many of so many cells from successive places, which begin at a block of the range, stand in carried blocks. The last number
--- is how many cells the range has from the first of them on.
+-- How many of so many cells from successive places, which begin at a block of the range, stand in
+-- carried blocks. The last number is how many cells the range has from the first of them on.
 abbrev pub served : Option ℕ → Place → ℕ → ℕ → ℕ
 served None place len left = 0
 served (Some end) place len left =
@@ -90,12 +93,13 @@ abbrev pub shown : ℕ → Piece → Cut
 shown from (Carried at place len) = Run place len
 shown from (Literal at bytes) = Rest (from + at) (length bytes)
 
--- Cells of contents, from a place on, are cut into what the definitions of provenance cut a range into that has their places, over
--- each store whose files have these ends.
+-- Cells of contents, from a place on, are cut into what the definitions of provenance cut a range
+-- into that has their places, over each store whose files have these ends.
 abbrev pub IsCutAsMeant : (Key → ℕ → Option ℕ) → ℕ → List (Option Trace) → List Cut → Type 0
 IsCutAsMeant ends from cells cuts = (store : Store ℕ) (range : List Traced) → AreEndsOf store ends → map (λ (c : Traced). c.place) range ≡ map place_in cells → cuts ≡ map (shown from) (pieces_of store range)
 
--- What is cut from cells that stand from one place up to another: it has a cell, and a stretch of other bytes lies among them.
+-- What is cut from cells that stand from one place up to another: it has a cell, and a stretch of
+-- other bytes lies among them.
 abbrev pub LiesIn : ℕ → ℕ → Cut → Type 0
 LiesIn from to (Run place len) = (0 < len) × (from + len ≤ to)
 LiesIn from to (Rest at len) = (0 < len) × (from ≤ at) × (at + len ≤ to)

@@ -1,5 +1,5 @@
--- Traces as the definitions of provenance have them: a trace to a complete subvolume is a place there, and a fresh one is none.
--- This program's own.
+-- Traces as the definitions of provenance have them: a trace to a complete subvolume is a place
+-- there, and a fresh one is none. This program's own.
 use Rattle.std.specs.Prelude.{Bool, true, false, ℕ, ◌+◌, ◌-◌, ◌^◌, ◌≡◌, Option, None, Some}
 use Rattle.send_model.specs.Subvolume.{Subvolume}
 use Rattle.send_model.specs.Provenance.{Place, Traced, traced_subvolume}
@@ -43,6 +43,7 @@ first_of key ino = Outside key ino 0
 abbrev pub sized : {C : Type 0} → Subvolume C → Subvolume (Unit {0})
 sized s = recelled (λ c. tt) s
 
--- The cells of a traced subvolume have the places that provenance begins with for each complete subvolume of the same sizes.
+-- The cells of a traced subvolume have the places that provenance begins with for each complete
+-- subvolume of the same sizes.
 abbrev pub IsTracedTo : {C : Type 0} → meant.Key → Subvolume C → Subvolume (Option Trace) → Type 0
 IsTracedTo key sub traced = (s : Subvolume ℕ) → sized s ≡ sized sub → recelled place_in traced ≡ recelled (λ (c : Traced). c.place) (traced_subvolume key s)

@@ -17,15 +17,16 @@ pub(crate) struct Spot {
     pub(crate) at: u64,
 }
 
-/// So many cells that come from successive places, the first of them from `spot`, or so many that come from no such place.
+/// So many cells that come from successive places, the first of them from `spot`, or so many that
+/// come from no such place.
 #[derive(Clone, Copy)]
 pub(crate) struct Front {
     pub(crate) spot: Option<Spot>,
     pub(crate) len: u64,
 }
 
-/// The cells in front of those from `at` up to `end`, as many as there are of one kind. Those that come from no place are passed at
-/// once, whatever runs they are.
+/// The cells in front of those from `at` up to `end`, as many as there are of one kind. Those that
+/// come from no place are passed at once, whatever runs they are.
 pub(crate) fn front_at(contents: &Extents<Trace>, at: u64, end: u64) -> Front
     requires order { at < end }
     requires within { end ≤ length contents.now }
@@ -74,7 +75,8 @@ fn spot_of(origin: Option<Trace>) -> Option<Spot>
     }
 }
 
-// Whether a cell that stands `len` cells after another comes from the place that is so many places further on.
+// Whether a cell that stands `len` cells after another comes from the place that is so many places
+// further on.
 fn goes_on(first: &Option<Spot>, len: u64, next: &Option<Spot>) -> bool
     ensures yes { IsTrue result → spot_in next.now ≡ later (spot_in first.now) len }
     ensures no { IsFalse result → spot_in next.now ≡ later (spot_in first.now) len → ⊥ }

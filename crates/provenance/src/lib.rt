@@ -1,4 +1,5 @@
-//! Where the cells of files come from: traces to places of complete subvolumes, and the blocks of a range that those carry.
+//! Where the cells of files come from: traces to places of complete subvolumes, and the blocks of a
+//! range that those carry.
 #![tactic(auto)]
 
 mod ends;

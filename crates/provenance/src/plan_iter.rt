@@ -14,8 +14,9 @@ use crate::trace::Trace;
 use extent_map::Extents;
 use std::marker::Model;
 
-/// What is left of a range, seen as what it is cut into: the maximal runs of carried blocks, and the maximal stretches of other
-/// bytes between them, in order. A call of `next` goes by the runs and holes of the contents, and not by blocks. It takes no memory.
+/// What is left of a range, seen as what it is cut into: the maximal runs of carried blocks, and
+/// the maximal stretches of other bytes between them, in order. A call of `next` goes by the runs
+/// and holes of the contents, and not by blocks. It takes no memory.
 #[derive(Debug, Drop)]
 pub struct PlanIter<'a, E: Ends> {
     contents: &'a Extents<Trace>,
@@ -36,8 +37,8 @@ impl<'a, E: Ends> Model for PlanIter<'a, E> {
     ghost invariant = { λ p. IsRange p.contents.now p.at p.end };
 }
 
-/// What a range of the contents is cut into: blocks of 4,096 cells from its start on, the last of which may be short, are carried
-/// by a file or are not. `ends` has the sizes of the outside files.
+/// What a range of the contents is cut into: blocks of 4,096 cells from its start on, the last of
+/// which may be short, are carried by a file or are not. `ends` has the sizes of the outside files.
 pub fn cut_blocks<'a, E: Ends>(
     contents: &'a Extents<Trace>,
     from: u64,

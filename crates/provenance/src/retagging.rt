@@ -31,8 +31,9 @@ impl Starts<Trace> for Firsts {
     }
 }
 
-/// The same inodes and names as `sub`, where each byte of a file comes from its own place in the subvolume that `key` names: what
-/// provenance begins with for a complete subvolume whose files have these sizes. Fails for want of memory alone.
+/// The same inodes and names as `sub`, where each byte of a file comes from its own place in the
+/// subvolume that `key` names: what provenance begins with for a complete subvolume whose files
+/// have these sizes. Fails for want of memory alone.
 pub fn retag<R: Origin>(sub: &Subvol<R>, key: Key) -> Result<Subvol<Trace>, AllocError>
     ensures tree { IfOk result (λ traced. traced ≡ retraced advanced_by (first_of key) sub.now) }
     ensures places { IfOk result (IsTracedTo (key_of key) sub.now) }

@@ -55,7 +55,8 @@ pub(crate) fn literal_end<E: Ends>(contents: &Extents<Trace>, start: u64, end: u
     at
 }
 
-// How many of `len` cells from the successive places of `first` stand in carried blocks, where `left` cells are left of the range.
+// How many of `len` cells from the successive places of `first` stand in carried blocks, where
+// `left` cells are left of the range.
 fn carried_of<E: Ends>(first: &Option<Spot>, len: u64, left: u64, ends: &E) -> u64
     ensures { result ≡ carried_len (E.ends ends.now) (spot_in first.now) len left }
 {
@@ -74,7 +75,8 @@ fn carried_of<E: Ends>(first: &Option<Spot>, len: u64, left: u64, ends: &E) -> u
     len - len % BLOCK
 }
 
-// How many cells the blocks have that begin among the first `len` cells, where `left` cells are left of the range.
+// How many cells the blocks have that begin among the first `len` cells, where `left` cells are
+// left of the range.
 fn passed_of(len: u64, left: u64) -> u64
     requires { len ≤ left }
     ensures { result ≡ min ((len + 4_095) / 4_096 * 4_096) left }

@@ -1,4 +1,5 @@
--- A frame that is written attribute by attribute, and the canonical one of a command of which nothing more is asked.
+-- A frame that is written attribute by attribute, and the canonical one of a command of which
+-- nothing more is asked.
 use Rattle.std.specs.Prelude.{◌≡◌, ℕ, ◌+◌, ◌^◌, ◌<◌, ◌≤◌, ◌==◌, false, List, [], ◌∷◌, ◌++◌, length, take, drop}
 use Rattle.std.proofs.Common.{refl, sym, ap, ◌∙◌, arith, append_assoc, append-nil, length-append}
 use Rattle.std.proofs.lemmas.Bool.{and_right}

@@ -1,5 +1,6 @@
-//! Commands in the receivable spelling: the one that the real `btrfs receive` takes. Where an inode is made it has a number, and in
-//! UTIMES the time of the last change, beside the wanted attributes of `send_commands`.
+//! Commands in the receivable spelling: the one that the real `btrfs receive` takes. Where an inode
+//! is made it has a number, and in UTIMES the time of the last change, beside the wanted attributes
+//! of `send_commands`.
 #![tactic(auto)]
 
 mod spelling;

@@ -16,9 +16,10 @@ use tlv_frame::attribute_numbers::{
     ATIME, CTIME, INO, MODE, MTIME, PATH as PATH_NUMBER, PATH_LINK, RDEV,
 };
 
-/// Appends a command in the receivable spelling of a version, 1 or 2. One of which more is asked than its wanted attributes is spelled
-/// attribute by attribute; the number of an inode that is made is 0. Fails for want of memory alone; then a part of the frame may stand
-/// behind what stood there.
+/// Appends a command in the receivable spelling of a version, 1 or 2. One of which more is asked
+/// than its wanted attributes is spelled attribute by attribute; the number of an inode that is
+/// made is 0. Fails for want of memory alone; then a part of the frame may stand behind what stood
+/// there.
 #[tactic(auto, unfolding(send_model::specs::Receivable::receivable, send_model::specs::Receivable::receivable_attributes, send_model::specs::Spelling::attributes_of, send_model::specs::Command::row, send_commands::specs::Writing::IsWritable), using(crate::proofs::Frames::short_text))]
 pub fn push_receivable(command: &Command<'_>, version: u32, to: &mut Blob) -> Result<(), AllocError>
     requires writable { IsWritable version (meaning_of command.now) }
@@ -55,7 +56,8 @@ pub fn push_receivable(command: &Command<'_>, version: u32, to: &mut Blob) -> Re
     }
 }
 
-// The same for a command of which nothing more is asked, so that the canonical spelling is the receivable one.
+// The same for a command of which nothing more is asked, so that the canonical spelling is the
+// receivable one.
 #[tactic(auto, using(crate::proofs::Frames::plain_is))]
 fn push_plain(command: &Command<'_>, version: u32, to: &mut Blob) -> Result<(), AllocError>
     requires plain { asked_for (meaning_of command.now) ≡ [] }
@@ -126,8 +128,9 @@ fn push_symlink(
     Ok(())
 }
 
-/// Appends UTIMES in the receivable spelling of a version, 1 or 2. The time of the last change is that of the contents. Fails for want
-/// of memory alone; then a part of the frame may stand behind what stood there.
+/// Appends UTIMES in the receivable spelling of a version, 1 or 2. The time of the last change is
+/// that of the contents. Fails for want of memory alone; then a part of the frame may stand behind
+/// what stood there.
 pub fn push_times(
     mtime: Time,
     atime: Time,

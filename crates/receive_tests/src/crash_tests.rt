@@ -34,7 +34,8 @@ fn entries_in(store: &Store) -> (u64, u64) {
     (complete, others)
 }
 
-// How many lines of the parts stand whole in what was written, in their order. None where anything else stands there.
+// How many lines of the parts stand whole in what was written, in their order. None where anything
+// else stands there.
 fn lines_in(written: &[u8]) -> Option<u64> {
     if written.is_empty() {
         return Some(0);
@@ -48,7 +49,8 @@ fn lines_in(written: &[u8]) -> Option<u64> {
     None
 }
 
-// Whether receiving both files, the last one cut after so many bytes, ends as cut and leaves so many complete entries and others.
+// Whether receiving both files, the last one cut after so many bytes, ends as cut and leaves so
+// many complete entries and others.
 fn cut_leaves(alloc: Global, all: &[&[u8]], complete: u64, others: u64) -> Result<bool, Fail> {
     let mut disk = new_store(alloc)?;
     let mut out = MemSink::new(alloc);
@@ -79,7 +81,8 @@ fn a_file_is_cut_at_each_byte(rt: HostRuntime) -> Result<(), Fail> {
     Ok(())
 }
 
-// Whether a store can be opened that has a complete entry for each line, one more that is not at the most, and no others.
+// Whether a store can be opened that has a complete entry for each line, one more that is not at
+// the most, and no others.
 fn is_there(alloc: Global, disk: &mut MemDisk, written: &[u8]) -> Result<bool, Fail> {
     let Some(lines) = lines_in(written) else {
         return Ok(false);
@@ -91,7 +94,8 @@ fn is_there(alloc: Global, disk: &mut MemDisk, written: &[u8]) -> Result<bool, F
     Ok(lines <= complete && complete <= 2 && others <= 1)
 }
 
-// Whether a disk that stops after some calls has, whatever a loss of power makes of it, what was acknowledged.
+// Whether a disk that stops after some calls has, whatever a loss of power makes of it, what was
+// acknowledged.
 fn stop_is_survived(alloc: Global, calls: u64) -> Result<bool, Fail> {
     let mut disk = FuseDisk::new(new_store(alloc)?, calls);
     let mut out = MemSink::new(alloc);

@@ -1,13 +1,14 @@
-// Files that are received over objects in memory. The frames and the store are from another program.
+// Files that are received over objects in memory. The frames and the store are from another
+// program.
 use crate::same::same;
 use disk_model::{FuseDisk, MemDisk};
 use guard_rules::{AnyGuard, GuardSpec};
-use part_names::{NamedFiles, PartNames};
+use part_names::{NamedFiles, Overrides};
 use receiver::{GuardList, Received, receive};
 use std::alloc::{AllocError, Global};
 use std::test::Fail;
+use store_commands::{StoreEnd, receive_store};
 use store_journal::{Store, StoreStop};
-use store_words::{StoreEnd, receive_store};
 use sx_base::{Disk, MemInputs, MemSink, Outcome, Refusal, Verdict};
 
 // SUBVOL a; MKFILE x; WRITE x 3 "hi"; TRUNCATE x 6; END
@@ -61,7 +62,8 @@ fn guards_of(alloc: Global, most: u64) -> Result<GuardList<AnyGuard>, AllocError
     Ok(GuardList::new(list))
 }
 
-// How receiving files into the store of a disk ends, under guards of so many commands and against devices.
+// How receiving files into the store of a disk ends, under guards of so many commands and against
+// devices.
 pub(crate) fn received<D: Disk>(
     alloc: Global,
     disk: &mut D,
@@ -72,11 +74,11 @@ pub(crate) fn received<D: Disk>(
     let mut store = Store::open(disk, alloc)?;
     let Files { mut inputs, names } = input_files(alloc, all)?;
     let mut guards = guards_of(alloc, most)?;
-    let part_names = PartNames::none(alloc);
+    let part_names = Overrides::none(alloc);
     let given = NamedFiles {
         alloc,
         files: names.as_slice(),
-        names: &part_names,
+        overrides: &part_names,
     };
     let end = receive(&given, &mut store, disk, &mut inputs, &mut guards, out);
     Ok(end)
@@ -184,7 +186,8 @@ fn store_of(alloc: Global, limit: u64) -> Result<MemDisk, Fail> {
     Ok(MemDisk::new(alloc, bytes.as_slice())?)
 }
 
-// Whether behind its header a disk has these groups and then a closed gate, and nothing of what follows counts.
+// Whether behind its header a disk has these groups and then a closed gate, and nothing of what
+// follows counts.
 fn has_groups(disk: &mut MemDisk, groups: &[&[u8]]) -> Result<bool, Fail> {
     let mut at = 20;
     for group in groups {
@@ -207,7 +210,8 @@ fn groups_a() -> &'static [u8] {
     &STORE[20..end]
 }
 
-// Whether receiving files into the store of a disk ends so, with the line of `a`, and leaves these groups.
+// Whether receiving files into the store of a disk ends so, with the line of `a`, and leaves these
+// groups.
 fn leaves(
     alloc: Global,
     disk: &mut MemDisk,
@@ -279,11 +283,11 @@ fn a_part_whose_line_fails_is_complete(rt: HostRuntime) -> Result<(), Fail> {
 fn word_ends(alloc: Global, disk: &mut MemDisk, out: &mut MemSink) -> Result<StoreEnd, AllocError> {
     let Files { mut inputs, names } = input_files(alloc, &[A])?;
     let mut guards = guards_of(alloc, 100)?;
-    let part_names = PartNames::none(alloc);
+    let part_names = Overrides::none(alloc);
     let given = NamedFiles {
         alloc,
         files: names.as_slice(),
-        names: &part_names,
+        overrides: &part_names,
     };
     Ok(receive_store(&given, disk, &mut inputs, &mut guards, out))
 }

@@ -11,7 +11,7 @@ use Rattle.send_model.specs.Store.{Store}
 use Rattle.send_model.specs.Receive.{byte_cells, start_of}
 use Rattle.send_model.specs.Guards.{Guard, Watched}
 use Rattle.send_model.specs.Due.{Limited, AtEnd, DoneWhole, limited_from, stop_due}
-use Rattle.send_model.specs.Renamed.{Names, renamed_limited}
+use Rattle.send_model.specs.Overridden.{Overrides, overridden_limited}
 use Rattle.store_model.specs.Image.{Header}
 use Rattle.store_model.specs.NamedFiles.{NamedFiles}
 use Rattle.store_model.specs.Stored.{Group}
@@ -21,7 +21,7 @@ use Rattle.store_model.specs.Written.{Begun, groups_from, groups_of}
 use Rattle.store_model.proofs.PassedStates.{IsOn, drop_start, start_closed}
 use Rattle.store_model.proofs.WrittenGroups.{written_is_received}
 use Rattle.auditor.specs.Following.{Followed, HaveSameShape, blank}
-use Rattle.store_groups.specs.declared.place.Place.{Place}
+use Rattle.group_replay.specs.declared.place.Place.{Place}
 use Rattle.store_journal.specs.Shown.{StoreState}
 use Rattle.store_journal.specs.Holding.{HasThese, Holds}
 use Rattle.receiver.specs.declared.outcome.Received.{Received}
@@ -46,13 +46,13 @@ unfolding lines_behind
 no_lines base = ap (λ (l : Store ℕ). flat_map complete_line (filter is_complete l)) (drop_start base base [] (sym (append-nil base)))
 
 -- What is read of files up to their limit, with names.
-abbrev read_with : Names → List (List ℕ) → Limited
-read_with names files = renamed_limited names (limited_from 1 files)
+abbrev read_with : Overrides → List (List ℕ) → Limited
+read_with names files = overridden_limited names (limited_from 1 files)
 
-abbrev pub with_names : Names → List (List ℕ) → NamedFiles
-with_names names files = record { bytes = files; names = names }
+abbrev pub with_names : Overrides → List (List ℕ) → NamedFiles
+with_names names files = record { bytes = files; overrides = names }
 
-module _ (limit gate : ℕ) (base : Store ℕ) (guards : List Guard) (names : Names) where
+module _ (limit gate : ℕ) (base : Store ℕ) (guards : List Guard) (names : Overrides) where
   all_lines : (files : List (List ℕ)) (lines : List ℕ) (left : Store ℕ) → lines_behind base left ≡ lines_behind base base ++ lines → lines ≡ lines_behind base left
   all_lines files lines left is = sym (is ∙ ap (λ (l : List ℕ). l ++ lines) (no_lines base))
 

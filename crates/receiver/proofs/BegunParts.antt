@@ -20,10 +20,10 @@ use Rattle.store_model.specs.Dues.{Due}
 use Rattle.store_model.specs.Written.{Begun, mark_of, begun_by}
 use Rattle.group_log.proofs.GatedGroups.{rests_has}
 use Rattle.group_log.specs.declared.stops.LogStop.TheVariants as log
-use Rattle.store_groups.specs.declared.place.Place.{Place}
-use Rattle.store_groups.specs.declared.stops.StoreStop.{StoreStop}
-use Rattle.store_groups.specs.declared.stops.StoreStop.TheVariants as stop
-use Rattle.store_groups.specs.Stopping.{IfRefused}
+use Rattle.group_replay.specs.declared.place.Place.{Place}
+use Rattle.group_replay.specs.declared.stops.StoreStop.{StoreStop}
+use Rattle.group_replay.specs.declared.stops.StoreStop.TheVariants as stop
+use Rattle.group_replay.specs.Stopping.{IfRefused}
 use Rattle.store_journal.specs.Filling as fill
 use Rattle.store_journal.specs.Filling.{Asked, gate_behind, group_asks, head_asks}
 use Rattle.store_journal.specs.Shown.{StoreState, IsOpen}

@@ -20,11 +20,11 @@ use Rattle.store_model.specs.Written.{Begun, and_command, begun_after}
 use Rattle.store_model.proofs.WrittenGroups.{edit_facts}
 use Rattle.group_log.proofs.GatedGroups.{rests_has}
 use Rattle.group_log.specs.declared.stops.LogStop.TheVariants as log
-use Rattle.store_groups.specs.declared.place.Place.{Place}
-use Rattle.store_groups.specs.Placing.{further}
-use Rattle.store_groups.specs.declared.stops.StoreStop.{StoreStop}
-use Rattle.store_groups.specs.declared.stops.StoreStop.TheVariants as stop
-use Rattle.store_groups.specs.Stopping.{IfRefused, IfEnded, IfLog}
+use Rattle.group_replay.specs.declared.place.Place.{Place}
+use Rattle.group_replay.specs.Placing.{further}
+use Rattle.group_replay.specs.declared.stops.StoreStop.{StoreStop}
+use Rattle.group_replay.specs.declared.stops.StoreStop.TheVariants as stop
+use Rattle.group_replay.specs.Stopping.{IfRefused, IfEnded, IfLog}
 use Rattle.store_journal.specs.Filling as fill
 use Rattle.store_journal.specs.Filling.{piece_asks}
 use Rattle.store_journal.specs.Shown.{StoreState, IsOpen}

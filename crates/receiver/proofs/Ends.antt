@@ -1,4 +1,5 @@
--- How receiving ends early: at an item, at a fault of reading, or where an object of the outside fails.
+-- How receiving ends early: at an item, at a fault of reading, or where an object of the outside
+-- fails.
 use Rattle.std.specs.Prelude.{◌≡◌, ℕ, List, [], ◌++◌, length, drop, Option}
 use Rattle.std.specs.List.{filter, flat_map}
 use Rattle.std.proofs.Common.{refl, sym, ap, ◌∙◌, append_assoc, append-nil}
@@ -16,7 +17,7 @@ use Rattle.store_model.specs.Dues.{Due, receive_from, left_from, or_due}
 use Rattle.store_model.proofs.PassedStates.{IsOn, run_on, on_way}
 use Rattle.store_model.proofs.Betweens.{between_has_them}
 use Rattle.auditor.specs.Following.{Followed, blank, then_read}
-use Rattle.store_groups.specs.declared.place.Place.{Place}
+use Rattle.group_replay.specs.declared.place.Place.{Place}
 use Rattle.store_journal.specs.Shown.{StoreState}
 use Rattle.receiver.specs.declared.opened.Opened.{Opened}
 use Rattle.receiver.specs.declared.outcome.Received.{Received}

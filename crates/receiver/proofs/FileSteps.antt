@@ -8,7 +8,7 @@ use Rattle.send_model.specs.Reading.{Item, Reading, CommandDue, due_after, with_
 use Rattle.send_model.specs.Store.{Head, Store, head_of}
 use Rattle.send_model.specs.Guards.{Guard}
 use Rattle.send_model.specs.Counts.{is_end}
-use Rattle.send_model.specs.Renamed.{named_as}
+use Rattle.send_model.specs.Overridden.{Override, overridden_as}
 use Rattle.cmd_reader.specs.declared.item.Item as read
 use Rattle.cmd_reader.specs.Places.{IfTold}
 use Rattle.cmd_reader.specs.Left.{Reader, at_start, left}
@@ -27,7 +27,7 @@ use Rattle.receiver.specs.Answers.{StepSays, PiecesSay}
 use Rattle.receiver.specs.Steps.{blank_of, line_under}
 use Rattle.receiver.specs.Running.{byte_step, Spot, IsAt}
 use Rattle.receiver.proofs.Unpacked.{Leads}
-use Rattle.receiver.proofs.NamedReads.{GivenFits, named_reading}
+use Rattle.receiver.proofs.NamedReads.{GivenFits, reading_with}
 use Rattle.receiver.proofs.Leading.{next_at, leads_none, leads_on, leads_one}
 
 -- Items, and then what else is read.
@@ -40,9 +40,9 @@ VersionDue reader None = ⊤
 VersionDue reader (Some begun) = reader.fed.due ≡ CommandDue begun.version
 
 -- These commands of the file, with the name that is given for its heads, were read and taken.
-pub record Stands (new_name : Option (List ℕ)) (file limit : ℕ) (base : Store ℕ) (spot : Spot) (reader : Reader) (guards : List Guard) (store : StoreState) (current : Option Opened) (old new : Option (List ℕ)) (K : List Group → Option Begun → Type 0) (bytes : List ℕ) : Type 0 where
+pub record Stands (override : Override) (file limit : ℕ) (base : Store ℕ) (spot : Spot) (reader : Reader) (guards : List Guard) (store : StoreState) (current : Option Opened) (old new : Option (List ℕ)) (K : List Group → Option Begun → Type 0) (bytes : List ℕ) : Type 0 where
   pub items : List Item
-  pub read : named_reading new_name (reads file bytes) ≡ and_then items (named_reading new_name (left reader bytes))
+  pub read : reading_with override (reads file bytes) ≡ and_then items (reading_with override (left reader bytes))
   pub reached : reader.offset ≤ length bytes
   pub now : Spot
   pub at : IsAt now guards store current
@@ -57,13 +57,13 @@ left_fresh : (file : ℕ) (name bytes : List ℕ) → left (at_start file name) 
 unfolding left reads
 left_fresh file name bytes = refl
 
-pub stands_at_start : (told : Option (List (List ℕ × List ℕ))) (new_name : Option (List ℕ)) (file limit : ℕ) (name : List ℕ) (base : Store ℕ) (spot : Spot) (reader : Reader) (guards : List Guard) (store : StoreState) (current : Option Opened) (out : Option (List ℕ)) (K : List Group → Option Begun → Type 0)
+pub stands_at_start : (told : Option (List (List ℕ × List ℕ))) (override : Override) (file limit : ℕ) (name : List ℕ) (base : Store ℕ) (spot : Spot) (reader : Reader) (guards : List Guard) (store : StoreState) (current : Option Opened) (out : Option (List ℕ)) (K : List Group → Option Begun → Type 0)
     → reader ≡ at_start file name → IsAt spot guards store current → IsOn base spot.watched.state.store spot.watched.state.part → spot.begun ≡ None → K [] None
-    → IfTold told name (Stands new_name file limit base spot reader guards store current out out K)
-stands_at_start told new_name file limit name base spot reader guards store current out K e at on none disk =
-    told_always told name (Stands new_name file limit base spot reader guards store current out out K) (λ bytes. subst (λ (r : Reader). Stands new_name file limit base spot r guards store current out out K bytes) (sym e) (record {
+    → IfTold told name (Stands override file limit base spot reader guards store current out out K)
+stands_at_start told override file limit name base spot reader guards store current out K e at on none disk =
+    told_always told name (Stands override file limit base spot reader guards store current out out K) (λ bytes. subst (λ (r : Reader). Stands override file limit base spot r guards store current out out K bytes) (sym e) (record {
       items = [];
-      read = ap (named_reading new_name) (sym (left_fresh file name bytes));
+      read = ap (reading_with override) (sym (left_fresh file name bytes));
       reached = omega (arith);
       now = spot;
       at = at;
@@ -122,33 +122,33 @@ then_item items item r = ap (λ (is : List Item). record { items = is; end = r.e
 -- ---- one command more
 
 -- What was left is the item with the name that is given for its file, and what is left now.
-pub left_named : (new_name : Option (List ℕ)) (file : ℕ) (old new : Reader) (own item : read.Item) (bytes : List ℕ) → old.file ≡ file → item_of file item ≡ named_as new_name (item_of file own) → IsNext old new own bytes
-    → named_reading new_name (left old bytes) ≡ with_item (item_of file item) (named_reading new_name (left new bytes))
-left_named new_name file old new own item bytes file_is named n =
-    ap (named_reading new_name) (n.left_is ∙ ap (λ (k : ℕ). with_item (item_of k own) (left new bytes)) file_is)
-    ∙ ap (λ (i : Item). with_item i (named_reading new_name (left new bytes))) (sym named)
+pub left_named : (override : Override) (file : ℕ) (old new : Reader) (own item : read.Item) (bytes : List ℕ) → old.file ≡ file → item_of file item ≡ overridden_as override (item_of file own) → IsNext old new own bytes
+    → reading_with override (left old bytes) ≡ with_item (item_of file item) (reading_with override (left new bytes))
+left_named override file old new own item bytes file_is named n =
+    ap (reading_with override) (n.left_is ∙ ap (λ (k : ℕ). with_item (item_of k own) (left new bytes)) file_is)
+    ∙ ap (λ (i : Item). with_item i (reading_with override (left new bytes))) (sym named)
 
-pub stands_after : (told inputs : Option (List (List ℕ × List ℕ))) (new_name : Option (List ℕ)) (file limit len : ℕ) (name : List ℕ) (base : Store ℕ) (spot : Spot) (old new : Reader) (guards guards_now : List Guard) (store store_now : StoreState) (current current_now : Option Opened) (out out_now out_next : Option (List ℕ)) (K L : List Group → Option Begun → Type 0) (f0 f1 : ℕ) (o : Option read.Item) (own item : read.Item)
-    → o ≡ Some own → inputs ≡ told → old.name ≡ name → old.file ≡ file → NextSays inputs old new f0 f1 (Ok o) → item_of file item ≡ named_as new_name (item_of file own) → GivenFits old new item → IsReady len current store
+pub stands_after : (told inputs : Option (List (List ℕ × List ℕ))) (override : Override) (file limit len : ℕ) (name : List ℕ) (base : Store ℕ) (spot : Spot) (old new : Reader) (guards guards_now : List Guard) (store store_now : StoreState) (current current_now : Option Opened) (out out_now out_next : Option (List ℕ)) (K L : List Group → Option Begun → Type 0) (f0 f1 : ℕ) (o : Option read.Item) (own item : read.Item)
+    → o ≡ Some own → inputs ≡ told → old.name ≡ name → old.file ≡ file → NextSays inputs old new f0 f1 (Ok o) → item_of file item ≡ overridden_as override (item_of file own) → GivenFits old new item → IsReady len current store
     → StepSays (Ok tt) (item_of file item) (beside guards_now (blank_of store_now current_now)) (follow (beside guards (blank_of store current)) (item_of file item))
     → PiecesSay (Ok tt) limit (behind_close current (item_of file item).command (place_of store current)) (place_of store_now current_now) (item_of file item)
     → Appends out_now out_next (line_under guards current (item_of file item).command)
     → ((groups : List Group) (begun : Option Begun) → HasVersion item.version begun → K groups begun → L (groups ++ (closed_by guards (item_of file item).command begun ++ begun_by (item_of file item).command)) (begun_after begun (item_of file item)))
-    → IfTold told name (Stands new_name file limit base spot old guards store current out out_now K) → IfTold told name (Stands new_name file limit base spot new guards_now store_now current_now out out_next L)
-stands_after told inputs new_name file limit len name base spot old new guards guards_now store store_now current current_now out out_now out_next K L f0 f1 o own item e same name_is file_is says named fits ready stepped pieces writes disk stands =
-    told_both told name (IsNext old new own) (Stands new_name file limit base spot old guards store current out out_now K) (Stands new_name file limit base spot new guards_now store_now current_now out out_next L) step
+    → IfTold told name (Stands override file limit base spot old guards store current out out_now K) → IfTold told name (Stands override file limit base spot new guards_now store_now current_now out out_next L)
+stands_after told inputs override file limit len name base spot old new guards guards_now store store_now current current_now out out_now out_next K L f0 f1 o own item e same name_is file_is says named fits ready stepped pieces writes disk stands =
+    told_both told name (IsNext old new own) (Stands override file limit base spot old guards store current out out_now K) (Stands override file limit base spot new guards_now store_now current_now out out_next L) step
     (next_item told inputs name old new f0 f1 o own e same name_is says) stands
   where
     meant_item : Item
     meant_item = item_of file item
 
-    step : (bytes : List ℕ) → IsNext old new own bytes → Stands new_name file limit base spot old guards store current out out_now K bytes → Stands new_name file limit base spot new guards_now store_now current_now out out_next L bytes
+    step : (bytes : List ℕ) → IsNext old new own bytes → Stands override file limit base spot old guards store current out out_now K bytes → Stands override file limit base spot new guards_now store_now current_now out out_next L bytes
     step bytes n s =
         let version = fits_version old item.version s.now.begun fits.same_stream s.version in
         let one = leads_one limit base s.now (item_of file item) guards len store current s.at s.leads.on ready guards_now store_now current_now stepped pieces in
         record {
           items = s.items ++ item_of file item ∷ [];
-          read = s.read ∙ ap (and_then s.items) (left_named new_name file old new own item bytes file_is named n) ∙ then_item s.items (item_of file item) (named_reading new_name (left new bytes));
+          read = s.read ∙ ap (and_then s.items) (left_named override file old new own item bytes file_is named n) ∙ then_item s.items (item_of file item) (reading_with override (left new bytes));
           reached = n.reached s.reached;
           now = record { watched = (byte_step s.now.watched (item_of file item)).state; place = place_of store_now current_now; begun = begun_after s.now.begun (item_of file item) };
           at = next_at limit base s.now (item_of file item) guards len store current s.at s.leads.on ready guards_now store_now current_now stepped pieces;

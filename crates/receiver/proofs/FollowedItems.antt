@@ -25,8 +25,8 @@ use Rattle.store_model.specs.Image.{Header}
 use Rattle.store_model.specs.Stored.{Group, is_edit}
 use Rattle.store_model.specs.Written.{Begun, mark_of, closed, closed_by}
 use Rattle.group_log.proofs.GatedGroups.{rests_has, grows_has}
-use Rattle.store_groups.specs.declared.place.Place.{Place}
-use Rattle.store_groups.specs.Placing.{further}
+use Rattle.group_replay.specs.declared.place.Place.{Place}
+use Rattle.group_replay.specs.Placing.{further}
 use Rattle.store_journal.specs.Shown.{StoreState}
 use Rattle.store_journal.specs.Holding.{bodies_of, HasThese}
 use Rattle.receiver.specs.declared.opened.Opened.{Opened}

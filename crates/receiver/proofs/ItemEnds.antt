@@ -34,7 +34,8 @@ use Rattle.receiver.proofs.LeftItems.{not_guarded}
 use Rattle.receiver.proofs.Leading.{the_guards, the_place, the_line, the_step, the_lines, the_rest}
 use Rattle.receiver.proofs.Ends.{later_lines}
 
--- What was written of the line of an item at which receiving ends. Sure says that the group of its part is there.
+-- What was written of the line of an item at which receiving ends. Sure says that the group of its
+-- part is there.
 abbrev pub WrittenAs : Received → Type 0 → (line lines : List ℕ) → Type 0
 WrittenAs (how.Files (ended.Refused verdict)) Sure line lines = lines ≡ line
 WrittenAs (how.Files ended.NoMemory) Sure line lines = (lines ≡ line) × Sure

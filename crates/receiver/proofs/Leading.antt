@@ -1,4 +1,5 @@
--- Items that lead from one spot to another: what is due, what is left, which groups are written and which lines printed.
+-- Items that lead from one spot to another: what is due, what is left, which groups are written and
+-- which lines printed.
 use Rattle.std.specs.Prelude.{◌≡◌, ℕ, Bool, true, false, List, [], ◌∷◌, ◌++◌, Option, None, Some, Ok, if◌then◌else◌}
 use Rattle.std.specs.Option.{option_map}
 use Rattle.std.proofs.Common.{refl, sym, ap, subst, ◌∙◌, append_assoc, append-nil}

@@ -1,4 +1,5 @@
--- The first groups that an item brings make what some items leave: none, END in its place, or the item itself.
+-- The first groups that an item brings make what some items leave: none, END in its place, or the
+-- item itself.
 use Rattle.std.specs.Prelude.{◌≡◌, ◌⊎◌, ℕ, ◌+◌, Bool, true, false, List, [], ◌∷◌, ◌++◌, Option, None, Some, if◌then◌else◌}
 use Rattle.std.proofs.Common.{inl, inr, refl, sym, ap, subst, ◌∙◌, append-nil}
 use Rattle.send_model.specs.Refusal as meant

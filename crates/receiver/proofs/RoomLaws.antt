@@ -10,9 +10,9 @@ use Rattle.store_model.specs.Dues as dues
 use Rattle.store_model.specs.Dues.{Due, end_behind, head_pieces, item_pieces}
 use Rattle.group_log.specs.declared.stops.LogStop.{LogStop}
 use Rattle.group_log.specs.declared.stops.LogStop.TheVariants as log
-use Rattle.store_groups.specs.declared.stops.StoreStop.{StoreStop}
-use Rattle.store_groups.specs.declared.stops.StoreStop.TheVariants as stop
-use Rattle.store_groups.specs.Stopping.{IfLog}
+use Rattle.group_replay.specs.declared.stops.StoreStop.{StoreStop}
+use Rattle.group_replay.specs.declared.stops.StoreStop.TheVariants as stop
+use Rattle.group_replay.specs.Stopping.{IfLog}
 use Rattle.store_journal.specs.Filling.{Asked, first_full, head_asks, piece_asks, gate_behind, IsStopOf}
 use Rattle.store_journal.proofs.Rooms.{as_piece, as_due, same_full}
 use Rattle.receiver.specs.Answers.{ended_by, PiecesSay}

@@ -1,4 +1,5 @@
--- What one item makes of all that is due from a spot on, where it is taken, refused, or has no room; and what it prints.
+-- What one item makes of all that is due from a spot on, where it is taken, refused, or has no
+-- room; and what it prints.
 use Rattle.std.specs.Prelude.{◌≡◌, ℕ, List, [], ◌∷◌, ◌++◌, Option, None, Some}
 use Rattle.std.proofs.Common.{refl, sym, ap, ◌∙◌, append_assoc, append-nil}
 use Rattle.send_model.specs.Refusal as meant

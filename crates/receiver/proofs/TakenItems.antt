@@ -24,8 +24,8 @@ use Rattle.store_model.specs.Written.{Begun, mark_of, begun_by, begun_after, clo
 use Rattle.store_model.specs.Dues.{Due, first_full, pieces_from}
 use Rattle.store_model.proofs.LawfulGroups.{edit_step}
 use Rattle.store_model.proofs.WrittenGroups.{head_fact, edit_facts}
-use Rattle.store_groups.specs.declared.place.Place.{Place}
-use Rattle.store_groups.specs.Placing.{further}
+use Rattle.group_replay.specs.declared.place.Place.{Place}
+use Rattle.group_replay.specs.Placing.{further}
 use Rattle.store_journal.specs.Shown.{StoreState}
 use Rattle.store_journal.specs.Holding.{HasThese, Holds}
 use Rattle.receiver.specs.declared.opened.Opened.{Opened}

@@ -5,13 +5,13 @@ use Rattle.send_model.specs.Reading.{Item}
 use Rattle.send_model.specs.Store.{Store}
 use Rattle.send_model.specs.Guards.{Guard}
 use Rattle.send_model.specs.Due.{Limited, limited_from}
-use Rattle.send_model.specs.Renamed.{Names, renamed_limited}
+use Rattle.send_model.specs.Overridden.{Override, Overrides, overridden_limited}
 use Rattle.auditor.specs.Following.{file_read}
 use Rattle.store_model.specs.Image.{Header}
 use Rattle.store_model.specs.NamedFiles.{NamedFiles}
 use Rattle.store_model.specs.Stored.{Group}
 use Rattle.store_model.specs.Written.{Begun}
-use Rattle.store_groups.specs.declared.place.Place.{Place}
+use Rattle.group_replay.specs.declared.place.Place.{Place}
 use Rattle.store_journal.specs.Shown.{StoreState}
 use Rattle.receiver.specs.declared.opened.Opened.{Opened}
 use Rattle.receiver.specs.declared.outcome.Received.{Received}
@@ -21,7 +21,7 @@ use Rattle.receiver.specs.Disks as disks
 use Rattle.receiver.specs.Running as running
 use Rattle.receiver.specs.Running.{Spot, start}
 use Rattle.receiver.specs.FileEnds as files
-use Rattle.receiver.specs.FileEnds.{named_read, reached}
+use Rattle.receiver.specs.FileEnds.{read_with, reached}
 use Rattle.receiver.specs.ReceiveEnds as ends
 use Rattle.receiver.specs.ReceiveEnds.{to_receive}
 
@@ -63,24 +63,24 @@ IsLeft why limit base spot read lines H = running.IsLeft why (start limit base s
 
 -- ---- how files end
 
-abbrev pub FileTaken : Option (List ℕ) → (file limit : ℕ) → Store ℕ → Spot → List Guard → StoreState → (old new : Option (List ℕ)) → (List Group → Option Begun → Type 0) → List ℕ → Type 0
-FileTaken new_name file limit base spot guards store old new K bytes = files.Taken (start limit base spot) (named_read new_name (file_read file bytes)) guards (reached store old new) K
+abbrev pub FileTaken : Override → (file limit : ℕ) → Store ℕ → Spot → List Guard → StoreState → (old new : Option (List ℕ)) → (List Group → Option Begun → Type 0) → List ℕ → Type 0
+FileTaken override file limit base spot guards store old new K bytes = files.Taken (start limit base spot) (read_with override (file_read file bytes)) guards (reached store old new) K
 
-abbrev pub FileStopped : Option (List ℕ) → (file limit : ℕ) → Store ℕ → Spot → StoreState → (old new : Option (List ℕ)) → (List Group → Type 0) → (((List Group → Type 0) → Type 0) → Type 0) → Received → List ℕ → Type 0
-FileStopped new_name file limit base spot store old new M J why bytes = files.FileStopped (start limit base spot) (named_read new_name (file_read file bytes)) (reached store old new) M J why
+abbrev pub FileStopped : Override → (file limit : ℕ) → Store ℕ → Spot → StoreState → (old new : Option (List ℕ)) → (List Group → Type 0) → (((List Group → Type 0) → Type 0) → Type 0) → Received → List ℕ → Type 0
+FileStopped override file limit base spot store old new M J why bytes = files.FileStopped (start limit base spot) (read_with override (file_read file bytes)) (reached store old new) M J why
 
-abbrev pub FileEnds : Option (List ℕ) → (file limit : ℕ) → Store ℕ → Spot → List Guard → StoreState → (old new : Option (List ℕ)) → (List Group → Option Begun → Type 0) → (List Group → Type 0) → (Received → ((List Group → Type 0) → Type 0) → Type 0) → Result (Unit {0}) Received → List ℕ → Type 0
-FileEnds new_name file limit base spot guards store old new K M J result = λ bytes.
-    files.FileEnds (start limit base spot) (named_read new_name (file_read file bytes)) guards (reached store old new) (record { runs = K; leaves = M; stops = J }) result
+abbrev pub FileEnds : Override → (file limit : ℕ) → Store ℕ → Spot → List Guard → StoreState → (old new : Option (List ℕ)) → (List Group → Option Begun → Type 0) → (List Group → Type 0) → (Received → ((List Group → Type 0) → Type 0) → Type 0) → Result (Unit {0}) Received → List ℕ → Type 0
+FileEnds override file limit base spot guards store old new K M J result = λ bytes.
+    files.FileEnds (start limit base spot) (read_with override (file_read file bytes)) guards (reached store old new) (record { runs = K; leaves = M; stops = J }) result
 
 -- What is read of all files.
-abbrev all_read : Names → List (List ℕ) → Limited
-all_read names bytes = renamed_limited names (limited_from 1 bytes)
+abbrev all_read : Overrides → List (List ℕ) → Limited
+all_read names bytes = overridden_limited names (limited_from 1 bytes)
 
-abbrev pub AllTaken : Names → ℕ → Store ℕ → Spot → List Guard → StoreState → (old new : Option (List ℕ)) → (List Group → Option Begun → Type 0) → List (List ℕ) → Type 0
+abbrev pub AllTaken : Overrides → ℕ → Store ℕ → Spot → List Guard → StoreState → (old new : Option (List ℕ)) → (List Group → Option Begun → Type 0) → List (List ℕ) → Type 0
 AllTaken names limit base spot guards store old new K bytes = files.Taken (start limit base spot) (all_read names bytes) guards (reached store old new) K
 
-abbrev pub AllEnds : Names → ℕ → Store ℕ → Spot → List Guard → StoreState → (old new : Option (List ℕ)) → (List Group → Option Begun → Type 0) → (List Group → Type 0) → (Received → ((List Group → Type 0) → Type 0) → Type 0) → Result (Unit {0}) Received → List (List ℕ) → Type 0
+abbrev pub AllEnds : Overrides → ℕ → Store ℕ → Spot → List Guard → StoreState → (old new : Option (List ℕ)) → (List Group → Option Begun → Type 0) → (List Group → Type 0) → (Received → ((List Group → Type 0) → Type 0) → Type 0) → Result (Unit {0}) Received → List (List ℕ) → Type 0
 AllEnds names limit base spot guards store old new K M J result = λ bytes.
     files.AllEnds (start limit base spot) (all_read names bytes) guards (reached store old new) (record { runs = K; leaves = M; stops = J }) result
 

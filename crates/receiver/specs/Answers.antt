@@ -18,8 +18,8 @@ use Rattle.sx_base.specs.declared.outcome.Outcome.{Outcome}
 use Rattle.sx_base.specs.declared.outcome.Outcome.TheVariants as ended
 use Rattle.group_log.specs.declared.stops.LogStop.{LogStop}
 use Rattle.group_log.specs.declared.stops.LogStop.TheVariants as log
-use Rattle.store_groups.specs.declared.stops.StoreStop.{StoreStop}
-use Rattle.store_groups.specs.declared.stops.StoreStop.TheVariants as stop
+use Rattle.group_replay.specs.declared.stops.StoreStop.{StoreStop}
+use Rattle.group_replay.specs.declared.stops.StoreStop.TheVariants as stop
 use Rattle.store_journal.specs.Shown.{StoreState}
 use Rattle.receiver.specs.declared.opened.Opened.{Opened}
 use Rattle.receiver.specs.declared.outcome.Received.{Received}
@@ -54,7 +54,8 @@ IfClosed (Err (how.Files outcome)) P = P
 IfClosed (Err how.StoreFault) P = ⊤
 IfClosed (Err (how.LogFull end wanted limit)) P = ⊤
 
--- Its line was written, or a part of it where the output failed, and nothing where the store's disk did.
+-- Its line was written, or a part of it where the output failed, and nothing where the store's disk
+-- did.
 abbrev pub WritesLine : List ℕ → Option (List ℕ) → Option (List ℕ) → ℕ → ℕ → Result (Unit {0}) Received → Type 0
 WritesLine line old new before now (Ok u) = Appends old new line
 WritesLine line old new before now (Err (how.Files outcome)) = (outcome ≡ ended.OutputFault) × Rose before now × AppendsPart old new line
@@ -99,7 +100,8 @@ pub record IsRefusedWith {S : Type 0} (verdict : Verdict) (item : Item) (new : S
   pub verdict_is : verdict_meant verdict ≡ verdict_of item refusal
   pub after_is : after ≡ record { state = new; refusal = Some refusal }
 
--- A step is taken, or it is refused with the verdict; where there is no room it is not refused. Else nothing is said.
+-- A step is taken, or it is refused with the verdict; where there is no room it is not refused.
+-- Else nothing is said.
 abbrev pub OutcomeSays : {S : Type 0} → Outcome → Item → S → After S → Type 0
 OutcomeSays (ended.Refused verdict) item new after = IsRefusedWith verdict item new after
 OutcomeSays ended.NoMemory item new after = ⊤
@@ -116,7 +118,8 @@ StepSays (Err (how.Files outcome)) item new after = OutcomeSays outcome item new
 StepSays (Err how.StoreFault) item new after = ⊤
 StepSays (Err (how.LogFull end wanted limit)) item new after = after.refusal ≡ None
 
--- There is room for what an item puts at a place, and the next bytes come behind it; or there is no room.
+-- There is room for what an item puts at a place, and the next bytes come behind it; or there is no
+-- room.
 abbrev pub PiecesSay : Result (Unit {0}) Received → (limit at next : ℕ) → Item → Type 0
 PiecesSay (Ok u) limit at next item = (first_full limit (item_pieces at item) ≡ None) × (next ≡ end_behind at (item_pieces at item))
 PiecesSay (Err (how.Files outcome)) limit at next item = ⊤
@@ -140,8 +143,8 @@ ReadySays (Err (how.Files outcome)) len current store = OutcomeReady outcome len
 ReadySays (Err how.StoreFault) len current store = store.is_live ≡ false
 ReadySays (Err (how.LogFull end wanted limit)) len current store = store.is_live ≡ false
 
--- A line was written, or a part of it where the output failed. Where the store's disk failed, it was written or not. Sure says that the
--- group of the part is on the disk then.
+-- A line was written, or a part of it where the output failed. Where the store's disk failed, it
+-- was written or not. Sure says that the group of the part is on the disk then.
 abbrev pub OutcomeWrites : Outcome → Type 0 → List ℕ → Option (List ℕ) → Option (List ℕ) → Type 0
 OutcomeWrites ended.OutputFault Sure line old new = AppendsPart old new line
 OutcomeWrites ended.NoMemory Sure line old new = Appends old new line × Sure
@@ -158,7 +161,8 @@ ItemWrites (Err (how.Files outcome)) Sure line old new = OutcomeWrites outcome S
 ItemWrites (Err how.StoreFault) Sure line old new = Appends old new [] ⊎ (Appends old new line × Sure)
 ItemWrites (Err (how.LogFull end wanted limit)) Sure line old new = Appends old new line
 
--- What a disk that tells has then: all groups of an item, or those that it completed, or those that there was room for.
+-- What a disk that tells has then: all groups of an item, or those that it completed, or those that
+-- there was room for.
 abbrev pub OutcomeKeeps : Outcome → (List Group → Option Begun → Type 0) → List Group → Type 0
 OutcomeKeeps ended.OutputFault K done = (begun : Option Begun) × K done begun
 OutcomeKeeps (ended.Refused verdict) K done = (begun : Option Begun) × K done begun
@@ -169,8 +173,8 @@ OutcomeKeeps (ended.InputTooLong file) K done = ⊥
 OutcomeKeeps (ended.TooMuch sum) K done = ⊥
 OutcomeKeeps (ended.InputChanged file place) K done = ⊥
 
--- The groups that a disk may have behind an item: those that were completed, those that there was room for, and all; and what the Body of
--- the open part would say behind all of them.
+-- The groups that a disk may have behind an item: those that were completed, those that there was
+-- room for, and all; and what the Body of the open part would say behind all of them.
 pub record GroupsBehind : Type 0 where
   pub done : List Group
   pub full : List Group

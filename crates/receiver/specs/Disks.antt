@@ -1,5 +1,5 @@
--- What a disk that tells has while commands are received: the groups that there were and those that were written since. This program's
--- own.
+-- What a disk that tells has while commands are received: the groups that there were and those that
+-- were written since. This program's own.
 use Rattle.std.specs.Prelude.{◌≡◌, ⊤, ℕ, ◌+◌, List, [], ◌∷◌, ◌++◌, length, Option, None, Some, Result, if◌then◌else◌}
 use Rattle.sx_base.specs.Disk.{Pending, IsImage}
 use Rattle.sx_base.specs.declared.outcome.Outcome.{Outcome}
@@ -33,7 +33,8 @@ pub record IsBuilt (header : Header) (groups : List Group) (begun : Begun) (curr
   pub uuid : begun.uuid ≡ current.part.key.uuid
   pub builds : Builds header groups (in_progress begun.version begun.commands current.part) now.store now.seen now.pending
 
--- The disk has these groups, and so has each image that a crash may leave, whether or not a part is open.
+-- The disk has these groups, and so has each image that a crash may leave, whether or not a part is
+-- open.
 abbrev pub Keeps : Header → List Group → Option Begun → Option Opened → Shown → Type 0
 Keeps header groups None None now = Holds header groups now.store now.seen now.pending
 Keeps header groups None (Some current) now = ⊥
@@ -61,7 +62,8 @@ HasVersion version (Some begun) = begun.version ≡ version
 abbrev pub closing : Command → Option Begun → List Group
 closing command begun = if is_edit command then [] else closed begun
 
--- What receiving works on: the disk, the store that is there, and the part that is open, if there is one.
+-- What receiving works on: the disk, the store that is there, and the part that is open, if there
+-- is one.
 pub record Work (D : Type 0) : Type 0 where
   pub disk : D
   pub store : StoreState
@@ -70,8 +72,8 @@ pub record Work (D : Type 0) : Type 0 where
 abbrev pub work : {D : Type 0} → D → StoreState → Option Opened → Work D
 work disk store current = record { disk = disk; store = store; current = current }
 
--- A run of calls of a disk that tells: it has some groups more, and at each moment a crash leaves those that there were and the first of
--- these.
+-- A run of calls of a disk that tells: it has some groups more, and at each moment a crash leaves
+-- those that there were and the first of these.
 abbrev pub RunsOn : {D : Type 0} → keeping.Ghosts D → (old new : Work D) → Option Begun → List Group → Option Begun → Type 0
 RunsOn ghosts old new begun groups next =
     ghosts.tells → (header : Header) (there : List Group) → Keeps header there begun old.current (shown ghosts old.disk old.store)
@@ -86,8 +88,8 @@ LeavesOn ghosts old new begun due =
 abbrev pub marked : ℕ → ℕ → Command → List Group
 marked limit place command = elim (first_full limit (pieces_from place (9 ∷ (1 + length (canonical 1 command)) ∷ []))) [ Some full ↦ [] | None ↦ begun_by command ]
 
--- After some calls of a disk that tells each image that a crash may leave has the groups that there were, those that were completed, and the
--- first of some others.
+-- After some calls of a disk that tells each image that a crash may leave has the groups that there
+-- were, those that were completed, and the first of some others.
 abbrev pub HasNow : {D : Type 0} → keeping.Ghosts D → Work D → D → ℕ → (Option Begun → List Group) → List Group → Type 0
 HasNow ghosts old new version done more =
     ghosts.tells → (header : Header) (there : List Group) (begun : Option Begun) → HasVersion version begun → Keeps header there begun old.current (shown ghosts old.disk old.store)
@@ -95,7 +97,8 @@ HasNow ghosts old new version done more =
 
 -- ---- where receiving ends
 
--- W holds of the groups behind those that were there: of these in each image that a crash may leave, or in the store, which can be used again.
+-- W holds of the groups behind those that were there: of these in each image that a crash may
+-- leave, or in the store, which can be used again.
 abbrev pub EachHas : Header → List Group → Pending → ((List Group → Type 0) → Type 0) → Type 0
 EachHas header there pending W = (image : List ℕ) → IsImage pending image → W (λ first. HasThese header (there ++ first) image)
 
@@ -126,7 +129,8 @@ abbrev pub StopsOn : {D : Type 0} → keeping.Ghosts D → (old new : Work D) �
 StopsOn ghosts old new why W =
     ghosts.tells → (header : Header) (there : List Group) → Keeps header there None old.current (shown ghosts old.disk old.store) → EndHas why header there new.current (shown ghosts new.disk new.store) W
 
--- What a disk says of a run of calls: where all was taken, at each moment, and where it ended early.
+-- What a disk says of a run of calls: where all was taken, at each moment, and where it ended
+-- early.
 pub record DiskSays : Type 1 where
   pub runs : List Group → Option Begun → Type 0
   pub leaves : List Group → Type 0

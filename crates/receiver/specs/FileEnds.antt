@@ -4,7 +4,7 @@ use Rattle.std.specs.Io.KnownBytes.{Appends}
 use Rattle.send_model.specs.Reading.{Item}
 use Rattle.send_model.specs.Guards.{Guard}
 use Rattle.send_model.specs.Due.{Limited, AtEnd, AtFault, AtLimit}
-use Rattle.send_model.specs.Renamed.{named_as}
+use Rattle.send_model.specs.Overridden.{Override, overridden_as}
 use Rattle.auditor.specs.Following.{read_whole, then_read}
 use Rattle.store_model.specs.Stored.{Group}
 use Rattle.store_model.specs.Written.{Begun, groups_from}
@@ -13,9 +13,9 @@ use Rattle.receiver.specs.declared.outcome.Received.{Received}
 use Rattle.receiver.specs.Disks.{DiskSays}
 use Rattle.receiver.specs.Running.{Start, Spot, IsAt, Leads, Stops, IsLeft}
 
--- What is read of a file, with the name that is given for its heads.
-abbrev pub named_read : Option (List ℕ) → Limited → Limited
-named_read new_name read = record { items = map (named_as new_name) read.items; stop = read.stop }
+-- What is read of a file, with what is said in front of it.
+abbrev pub read_with : Override → Limited → Limited
+read_with override read = record { items = map (overridden_as override) read.items; stop = read.stop }
 
 -- What is read of a file, and what is read of the others if that is all of it.
 abbrev pub then_others : Limited → Limited → Limited
@@ -34,7 +34,8 @@ pub record Reached : Type 0 where
 abbrev pub reached : StoreState → (before now : Option (List ℕ)) → Reached
 reached store before now = record { store = store; before = before; now = now }
 
--- All commands that were read are taken, and no part is open behind them. K says what a disk that tells has then.
+-- All commands that were read are taken, and no part is open behind them. K says what a disk that
+-- tells has then.
 pub record Taken (from : Start) (input : Limited) (guards : List Guard) (new : Reached) (K : List Group → Option Begun → Type 0) : Type 0 where
   pub items : List Item
   pub read : input ≡ read_whole items
@@ -47,7 +48,8 @@ pub record Taken (from : Start) (input : Limited) (guards : List Guard) (new : R
   pub none : now.begun ≡ None
   pub disk : K groups None
 
--- Receiving ends in a file, whatever files follow it. M says what a crash leaves of some groups, and J what a disk that tells has then.
+-- Receiving ends in a file, whatever files follow it. M says what a crash leaves of some groups,
+-- and J what a disk that tells has then.
 pub record FileStopped (from : Start) (input : Limited) (new : Reached) (M : List Group → Type 0) (J : ((List Group → Type 0) → Type 0) → Type 0) (why : Received) : Type 0 where
   pub lines : List ℕ
   pub wrote : Appends new.before new.now lines

@@ -16,7 +16,7 @@ use Rattle.sx_base.specs.Refusals.{verdict_meant}
 use Rattle.sx_base.specs.Calls.{SteadyIfDone}
 use Rattle.sx_base.specs.declared.outcome.Outcome.{Outcome}
 use Rattle.sx_base.specs.declared.outcome.Outcome.TheVariants as ended
-use Rattle.store_groups.specs.declared.place.Place.{Place}
+use Rattle.group_replay.specs.declared.place.Place.{Place}
 use Rattle.store_journal.specs.Shown.{StoreState}
 use Rattle.store_journal.specs.Holding.{Holds}
 use Rattle.receiver.specs.declared.outcome.Received.{Received}
@@ -25,7 +25,8 @@ use Rattle.receiver.specs.Answers.{ReadySays}
 use Rattle.receiver.specs.Disks.{Shown, EndLeaves, EachHas}
 use Rattle.receiver.specs.Running.{IfAllRead, IfDecided}
 
--- What receiving goes by: the greatest size of the store, where its next group comes, the store that there is, the guards, and the files.
+-- What receiving goes by: the greatest size of the store, where its next group comes, the store
+-- that there is, the guards, and the files.
 pub record ToReceive : Type 0 where
   pub limit : ℕ
   pub gate : ℕ
@@ -59,7 +60,8 @@ module _ (task : ToReceive) where
   OutcomeEnds (ended.TooMuch sum) core written = ⊥
   OutcomeEnds (ended.InputChanged file place) core written = ⊥
 
-  -- The outcome is the answer that is due, or an object of the outside failed, or there was no memory.
+  -- The outcome is the answer that is due, or an object of the outside failed, or there was no
+  -- memory.
   abbrev pub ReceiveEnds : Received → Store (Option Place) → List ℕ → Type 0
   ReceiveEnds (how.Files outcome) core written = OutcomeEnds outcome core written
   ReceiveEnds how.StoreFault core written = (unwritten : List ℕ) × IsFront written unwritten
@@ -71,13 +73,15 @@ SteadyIfReceived before now (how.Files outcome) = SteadyIfDone before now outcom
 SteadyIfReceived before now how.StoreFault = ⊤
 SteadyIfReceived before now (how.LogFull end wanted limit) = ⊤
 
--- The store is idle then, unless its journal stopped, so that it is not live, or there was no memory.
+-- The store is idle then, unless its journal stopped, so that it is not live, or there was no
+-- memory.
 abbrev pub IdleAfter : Received → ℕ → StoreState → Type 0
 IdleAfter result len store = ReadySays (Err result) len None store
 
 module _ (task : ToReceive) where
-  -- H holds of the first of the groups that are due. They make a store in which each part is complete of whose line something was written.
-  -- Where the answer is due, that is what is left; and where all was read, these are all groups.
+  -- H holds of the first of the groups that are due. They make a store in which each part is
+  -- complete of whose line something was written. Where the answer is due, that is what is left;
+  -- and where all was read, these are all groups.
   pub record AreLeft (why : Received) (written : List ℕ) (H : List Group → Type 0) : Type 0 where
     pub first : List Group
     pub more : List Group
@@ -90,8 +94,8 @@ module _ (task : ToReceive) where
     pub left : IfDecided why (now ≡ receive_left task.limit task.gate task.base task.guards task.files)
     pub whole : IfAllRead why (more ≡ [])
 
--- Behind the groups that a disk that tells had it has some more, of which W holds: with the store, which can be used again, or in each image
--- that a crash may leave.
+-- Behind the groups that a disk that tells had it has some more, of which W holds: with the store,
+-- which can be used again, or in each image that a crash may leave.
 abbrev pub LeavesMore : (tells : Type 0) → (old new : Shown) → Received → ((List Group → Type 0) → Type 0) → Type 0
 LeavesMore tells old new why W =
     tells → (header : Header) (groups : List Group) → Holds header groups old.store old.seen old.pending

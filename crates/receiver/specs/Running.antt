@@ -15,7 +15,7 @@ use Rattle.auditor.specs.Following.{Followed, beside, blank}
 use Rattle.sx_base.specs.Refusals.{verdict_meant}
 use Rattle.sx_base.specs.declared.outcome.Outcome.{Outcome}
 use Rattle.sx_base.specs.declared.outcome.Outcome.TheVariants as ended
-use Rattle.store_groups.specs.declared.place.Place.{Place}
+use Rattle.group_replay.specs.declared.place.Place.{Place}
 use Rattle.store_journal.specs.Shown.{StoreState}
 use Rattle.receiver.specs.declared.opened.Opened.{Opened}
 use Rattle.receiver.specs.declared.outcome.Received.{Received}
@@ -45,7 +45,8 @@ pub record IsAt (spot : Spot) (guards : List Guard) (store : StoreState) (curren
   pub seen : without_cells spot.watched ≡ beside guards (blank_of store current)
   pub place : spot.place ≡ place_of store current
 
--- From where receiving goes on: the greatest size of the store, the store behind whose parts lines are printed, and the spot.
+-- From where receiving goes on: the greatest size of the store, the store behind whose parts lines
+-- are printed, and the spot.
 pub record Start : Type 0 where
   pub limit : ℕ
   pub base : Store ℕ
@@ -77,11 +78,13 @@ LinesLeft limit base spot read lines = lines_behind base (left_from limit spot.p
 abbrev pub CoreLeft : ℕ → Spot → Limited → Store (Option Place) → Type 0
 CoreLeft limit spot read core = blank core ≡ blank (left_from limit spot.place spot.watched read.items)
 
--- The lines, and others behind them, are those of the parts that are complete once all was received.
+-- The lines, and others behind them, are those of the parts that are complete once all was
+-- received.
 pub record IsLineFront (base : Store ℕ) (spot : Spot) (read : Limited) (lines unwritten : List ℕ) : Type 0 where
   pub all : lines_behind base (run_by byte_step spot.watched read.items).state.state.store ≡ lines_behind base spot.watched.state.store ++ (lines ++ unwritten)
 
--- Where receiving ends early, the answer is due, with the lines that are due; or some of the lines were written.
+-- Where receiving ends early, the answer is due, with the lines that are due; or some of the lines
+-- were written.
 abbrev pub OutcomeStops : Outcome → Start → Limited → List ℕ → Store (Option Place) → Type 0
 OutcomeStops (ended.Refused verdict) from read lines core = (due_from from.limit from.spot read ≡ Ends (RefusedAt (verdict_meant verdict))) × LinesLeft from.limit from.base from.spot read lines × CoreLeft from.limit from.spot read core
 OutcomeStops (ended.InputTooLong file) from read lines core = (due_from from.limit from.spot read ≡ Ends (TooLong file)) × LinesLeft from.limit from.base from.spot read lines × CoreLeft from.limit from.spot read core
@@ -121,8 +124,9 @@ IfDecided (how.Files outcome) P = IfRead outcome P
 IfDecided how.StoreFault P = ⊤
 IfDecided (how.LogFull end wanted limit) P = P
 
--- H holds of the first of the groups that are due from a spot on. They make what some items leave, and each part is complete there of whose
--- line something was written. Where the answer is due, that is what is left; and where all was read, these are all groups.
+-- H holds of the first of the groups that are due from a spot on. They make what some items leave,
+-- and each part is complete there of whose line something was written. Where the answer is due,
+-- that is what is left; and where all was read, these are all groups.
 pub record IsLeft (why : Received) (from : Start) (read : Limited) (lines : List ℕ) (H : List Group → Type 0) : Type 0 where
   pub items : List Item
   pub more : List Group

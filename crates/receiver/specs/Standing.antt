@@ -1,4 +1,5 @@
--- What stands between two commands that are received: the store, and the part that is open with its line. This program's own.
+-- What stands between two commands that are received: the store, and the part that is open with its
+-- line. This program's own.
 use Rattle.std.specs.Prelude.{◌≡◌, ℕ, ◌+◌, List, [], ◌∷◌, ◌++◌, Option, None, Some, if◌then◌else◌}
 use Rattle.std.specs.Option.{option_map}
 use Rattle.send_model.specs.Command.{Command}
@@ -6,7 +7,7 @@ use Rattle.send_model.specs.Store.{Entry, State, completed}
 use Rattle.store_model.specs.Stored.{is_edit}
 use Rattle.store_model.specs.States.{complete_line}
 use Rattle.store_model.specs.Dues.{seal_len}
-use Rattle.store_groups.specs.declared.place.Place.{Place}
+use Rattle.group_replay.specs.declared.place.Place.{Place}
 use Rattle.store_journal.specs.Shown.{StoreState, IsIdle, IsOpen}
 use Rattle.receiver.specs.declared.opened.Opened.{Opened}
 

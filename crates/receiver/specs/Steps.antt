@@ -8,8 +8,8 @@ use Rattle.send_model.specs.Store.{State, After, step_edit, step}
 use Rattle.clone_resolve.specs.Steps.{cells_put}
 use Rattle.store_model.specs.Stored.{Group}
 use Rattle.store_model.specs.Written.{begun_by}
-use Rattle.store_groups.specs.declared.place.Place.{Place}
-use Rattle.store_groups.specs.Placing.{further}
+use Rattle.group_replay.specs.declared.place.Place.{Place}
+use Rattle.group_replay.specs.Placing.{further}
 use Rattle.store_journal.specs.Shown.{StoreState}
 use Rattle.receiver.specs.declared.opened.Opened.{Opened}
 use Rattle.receiver.specs.declared.outcome.Received.{Received}

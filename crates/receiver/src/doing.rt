@@ -24,7 +24,7 @@ use crate::task::FileItem;
 use clone_resolve::Head;
 use cmd_reader::Item;
 use group_log::LogStop;
-use store_groups::StoreStop;
+use group_replay::StoreStop;
 use store_journal::Store;
 use sx_base::{Disk, Outcome, Refusal, Verdict};
 

@@ -16,7 +16,8 @@ pub trait Guarding {
     // Their kinds and what they have counted.
     ghost kept: { Self → List meant.Guard };
 
-    /// Lets each guard in turn look at a command, and gives the refusal of the first that refuses it.
+    /// Lets each guard in turn look at a command, and gives the refusal of the first that refuses
+    /// it.
     fn look(&mut self, command: &Command<'_>) -> Option<Refusal>
         ensures refused { guarded (kept self.old) (meaning_of command.now)
             ≡ option_map refusal_of result }

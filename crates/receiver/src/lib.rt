@@ -1,5 +1,6 @@
-//! Receiving the streams of files into a store: each command is read, looked at by the guards, done, and put into the store's
-//! journal; and the line of each part is written once the part is complete and stable.
+//! Receiving the streams of files into a store: each command is read, looked at by the guards,
+//! done, and put into the store's journal; and the line of each part is written once the part is
+//! complete and stable.
 #![tactic(auto)]
 
 mod closing;

@@ -5,8 +5,8 @@ ghost use Rattle.store_model.specs.States.{complete_line};
 ghost use Rattle.clone_resolve.specs.Heads.{head_meant};
 
 use clone_resolve::{Head, Part};
+use group_replay::Place;
 use std::alloc::{AllocError, Global};
-use store_groups::Place;
 use stream_dump::{push_decimal, push_uuid};
 use sx_base::{Blob, escape_into};
 

@@ -8,7 +8,8 @@ pub enum Received {
     Files(Outcome),
     /// The store's disk failed. It comes only where its count of faults rose in the call.
     StoreFault,
-    /// Bytes wanted at this end, with a checksum and the next gate behind them, would go past the limit.
+    /// Bytes wanted at this end, with a checksum and the next gate behind them, would go past the
+    /// limit.
     LogFull {
         /// Where they would stand, in bytes.
         end: u64,

@@ -6,7 +6,7 @@ ghost use Rattle.sx_base.specs.Calls.{IfAllTold, Wrote};
 ghost use Rattle.sx_base.specs.Crash.{LeavesOnly};
 ghost use Rattle.sx_base.specs.Later.{AskedOnly};
 ghost use Rattle.send_model.specs.Due.{limited_from};
-ghost use Rattle.send_model.specs.Renamed.{renamed_limited};
+ghost use Rattle.send_model.specs.Overridden.{overridden_limited};
 ghost use Rattle.send_model.specs.Store as meant;
 ghost use Rattle.store_model.specs.Image.{Header};
 ghost use Rattle.store_model.specs.Stored.{Group};
@@ -25,14 +25,16 @@ use part_names::NamedFiles;
 use store_journal::Store;
 use sx_base::{Disk, Inputs, Outcome, Sink};
 
-/// Receives the streams in the files into the store, under guards. The files are read once, in order and one command at a time, so a
-/// pipe serves: each command is read, looked at by the guards, done, and put into the journal; and each head of a file for which a
-/// name is given has that name in place of its own before anything looks at it. A head and END complete the part that is open: its
-/// group is published, and then `out` gets its line, `complete NAME UUID CTRANSID`. A part that is open where receiving ends early
-/// stays unfinished. The answer is the one that is due, and the lines are those of the parts that are complete; else an
-/// object of the outside failed, or there was no memory, and some of the lines were written. Where the disk tells, a crash at any
-/// moment leaves the groups that there were and the first of those that are due; and whatever ends it, it then has the groups of each
-/// part of whose line something was written.
+/// Receives the streams in the files into the store, under guards. The files are read once, in
+/// order and one command at a time, so a pipe serves: each command is read, looked at by the
+/// guards, done, and put into the journal; and each head of a file for which a name is given has
+/// that name in place of its own before anything looks at it. A head and END complete the part that
+/// is open: its group is published, and then `out` gets its line, `complete NAME UUID CTRANSID`. A
+/// part that is open where receiving ends early stays unfinished. The answer is the one that is
+/// due, and the lines are those of the parts that are complete; else an object of the outside
+/// failed, or there was no memory, and some of the lines were written. Where the disk tells, a
+/// crash at any moment leaves the groups that there were and the first of those that are due; and
+/// whatever ends it, it then has the groups of each part of whose line something was written.
 pub fn receive<I: Inputs, O: Sink, D: Disk, G: Guarding>(
     given: &NamedFiles<'_>,
     store: &mut Store,
@@ -51,10 +53,10 @@ pub fn receive<I: Inputs, O: Sink, D: Disk, G: Guarding>(
         IfAllTold (I.told inputs.old) (map string_bytes given.now.files.now)
         (λ files. Wrote (O.taken out.old) (O.taken out.new) (λ written.
         ReceiveEnds (to_receive store.old.log.limit store.old.log.gate base (G.kept guards.old)
-        (record { bytes = files; names = given.now.names.now })) result store.new.core written
+        (record { bytes = files; overrides = given.now.overrides.now })) result store.new.core written
         × LeavesMore D.tells (shown D.Disk disk.old store.old) (shown D.Disk disk.new store.new)
         result (AreLeft (to_receive store.old.log.limit store.old.log.gate base
-        (G.kept guards.old) (record { bytes = files; names = given.now.names.now }))
+        (G.kept guards.old) (record { bytes = files; overrides = given.now.overrides.now }))
         result written))) }
     ensures any_moment { D.tells → (header : Header) (groups : List Group) →
         Holds header groups store.old (D.seen disk.old) (D.pending disk.old) →
@@ -62,7 +64,7 @@ pub fn receive<I: Inputs, O: Sink, D: Disk, G: Guarding>(
         IfAllTold (I.told inputs.old) (map string_bytes given.now.files.now)
         (λ files. LeavesOnly D.moment D.left_since disk.old disk.new (HasFront header groups
         (groups_of base (G.kept guards.old)
-        (renamed_limited given.now.names.now (limited_from 1 files)).items))) }
+        (overridden_limited given.now.overrides.now (limited_from 1 files)).items))) }
     ensures cause { Caused
         (fault_counts (I.faults inputs.old) (O.faults out.old) (D.faults disk.old))
         (fault_counts (I.faults inputs.new) (O.faults out.new) (D.faults disk.new)) result }

@@ -8,7 +8,8 @@ use Rattle.send_commands.specs.declared.encoding.Field as coded
 use Rattle.send_commands.specs.declared.encoding.Field.TheVariants as made
 use Rattle.send_commands.specs.Meaning.{time_of}
 
--- Bytes fit the length field of an attribute, where it has one, and a moment has less than a second of nanoseconds.
+-- Bytes fit the length field of an attribute, where it has one, and a moment has less than a second
+-- of nanoseconds.
 abbrev pub FieldShort : ℕ → ℕ → Field → Type 0
 FieldShort version kind (Identifier bytes) = Unit {0}
 FieldShort version kind (Number n) = Unit {0}

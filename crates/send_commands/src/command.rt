@@ -14,8 +14,8 @@ pub struct Time {
 }
 
 impl Time {
-    /// Its bytes: eight of seconds and four of nanoseconds, each with the least byte first. Source: the times of UTIMES in
-    /// send.h of btrfs-progs.
+    /// Its bytes: eight of seconds and four of nanoseconds, each with the least byte first. Source:
+    /// the times of UTIMES in send.h of btrfs-progs.
     pub fn bytes(self) -> [u8; 12]
         ensures { result ≡ to_le_bytes w64 self.secs ++ to_le_bytes w32 self.nanos }
     {
@@ -28,8 +28,8 @@ impl Time {
     }
 }
 
-/// A command with its values. Paths, names and data are bytes that stand elsewhere; sizes, offsets and lengths count bytes. Source: enum
-/// btrfs_send_cmd in send.h of btrfs-progs.
+/// A command with its values. Paths, names and data are bytes that stand elsewhere; sizes, offsets
+/// and lengths count bytes. Source: enum btrfs_send_cmd in send.h of btrfs-progs.
 #[derive(Debug, Clone, Copy)]
 pub enum Command<'a> {
     /// Begins a subvolume of its own.

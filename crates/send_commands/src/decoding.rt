@@ -20,11 +20,12 @@ use tlv_frame::attribute_numbers::*;
 // The number of the command ENCODED_WRITE of version 2.
 const ENCODED_WRITE: u16 = 25;
 
-/// The command of this number with these attributes, in the version that they were read in. Encoded where the number is that of a
-/// write of compressed bytes, which version 2 has; UnknownCommand where no command of the version has the number; then for the first
-/// wanted attribute, in rising order, MissingAttribute where it is not there and BadAttribute where it has a wrong length;
-/// then BadTime where a time has 1,000,000,000 nanoseconds or more. What is read can be written by `encode`, and its
-/// bytes stay where the table has them. Takes no memory.
+/// The command of this number with these attributes, in the version that they were read in. Encoded
+/// where the number is that of a write of compressed bytes, which version 2 has; UnknownCommand
+/// where no command of the version has the number; then for the first wanted attribute, in rising
+/// order, MissingAttribute where it is not there and BadAttribute where it has a wrong length; then
+/// BadTime where a time has 1,000,000,000 nanoseconds or more. What is read can be written by
+/// `encode`, and its bytes stay where the table has them. Takes no memory.
 pub fn decode<'a>(cmd: u16, table: &AttrTable<'a>) -> Result<Command<'a>, Refusal>
     ensures exact { (attributes : List Attribute) → StandsFor table.now attributes
         → Reads meaning_of result (command_of table.now.version cmd attributes) }
@@ -36,8 +37,9 @@ pub fn decode<'a>(cmd: u16, table: &AttrTable<'a>) -> Result<Command<'a>, Refusa
     }
 }
 
-/// Which command it is, where it has a number of the version and lawful attributes: it refuses what `decode` refuses, in the same
-/// order. The values of the attributes are those of the command. Takes no memory.
+/// Which command it is, where it has a number of the version and lawful attributes: it refuses what
+/// `decode` refuses, in the same order. The values of the attributes are those of the command.
+/// Takes no memory.
 pub fn lawful_kind(cmd: u16, table: &AttrTable<'_>) -> Result<Kind, Refusal>
     ensures exact { (attributes : List Attribute) → StandsFor table.now attributes
         → Reads (λ kind. command_with (kind_meant kind) (bytes_in table.now)) result

@@ -24,8 +24,8 @@ enum Field<'a> {
     Bytes(&'a [u8]),
 }
 
-/// Appends the canonical spelling of the command, a frame with the wanted attributes alone in rising order of their
-/// numbers, or changes nothing where there is no memory.
+/// Appends the canonical spelling of the command, a frame with the wanted attributes alone in
+/// rising order of their numbers, or changes nothing where there is no memory.
 pub fn encode(c: &Command<'_>, version: u32, to: &mut Blob) -> Result<(), AllocError>
     requires writable { IsWritable version (meaning_of c.now) }
     requires short { IsShortEnough version (meaning_of c.now) }
@@ -40,7 +40,8 @@ pub fn encode(c: &Command<'_>, version: u32, to: &mut Blob) -> Result<(), AllocE
     answer
 }
 
-/// The place in the canonical spelling of the command where the bytes of a write begin, None for other commands.
+/// The place in the canonical spelling of the command where the bytes of a write begin, None for
+/// other commands.
 #[tactic(auto, unfolding(crate::specs::Writing::data_at, send_model::specs::Spelling::attributes_of, send_model::specs::Command::row))]
 pub fn data_place(c: &Command<'_>, version: u32) -> Option<u64>
     ensures place { result ≡ data_at version (meaning_of c.now) }
@@ -240,8 +241,8 @@ fn put_command(c: &Command<'_>, version: u32, to: &mut Blob) -> Result<(), Alloc
     }
 }
 
-// Appends a frame of the command with these values of its wanted attributes. Without memory the blob begins with the
-// bytes that it had.
+// Appends a frame of the command with these values of its wanted attributes. Without memory the
+// blob begins with the bytes that it had.
 fn put(kind: Kind, version: u32, fields: &[Field<'_>], to: &mut Blob) -> Result<(), AllocError>
     requires values { FieldsShort version (row (kind_meant kind)).wanted (map field_of fields.now) }
     requires short { IfSecond (version == 2)

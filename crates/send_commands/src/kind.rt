@@ -60,7 +60,8 @@ pub enum Kind {
 }
 
 impl Kind {
-    /// The command of this number in a stream of this version, None where there is none. Version 2 has two more than version 1.
+    /// The command of this number in a stream of this version, None where there is none. Version 2
+    /// has two more than version 1.
     #[tactic(auto, unfolding(send_model::specs::Command::kind_of_number, send_model::specs::Command::row), using(crate::proofs::Numbers::second_kinds))]
     pub fn from_number(version: u32, number: u16) -> Option<Kind>
         ensures kind { option_map kind_meant result ≡ kind_of_number version number }

@@ -18,7 +18,8 @@ use tlv_frame::attribute_numbers::{ATIME, MTIME};
 // Nanoseconds in a second.
 const SECOND: u32 = 1_000_000_000;
 
-// That the attributes of these numbers are there with the lengths of their forms, or the refusal of the first that is not.
+// That the attributes of these numbers are there with the lengths of their forms, or the refusal of
+// the first that is not.
 pub(crate) fn find_wanted(table: &AttrTable<'_>, wanted: &[u16]) -> Result<(), Refusal>
     ensures exact { (attributes : List Attribute) → StandsFor table.now attributes
         → Reads (λ x. x) result (wanted_there wanted.now attributes) }
@@ -38,8 +39,8 @@ pub(crate) fn find_wanted(table: &AttrTable<'_>, wanted: &[u16]) -> Result<(), R
     Ok(())
 }
 
-// Whether the moments among the attributes that a command wants, which have their forms, have less than a second of nanoseconds.
-// One command alone wants moments.
+// Whether the moments among the attributes that a command wants, which have their forms, have less
+// than a second of nanoseconds. One command alone wants moments.
 #[tactic(auto, unfolding(send_model::specs::Command::row, send_model::specs::Attribute::form_of))]
 pub(crate) fn times_lawful(table: &AttrTable<'_>, kind: Kind) -> bool
     requires forms { HaveForms table.now (row (kind_meant kind)).wanted }

@@ -1,4 +1,5 @@
--- An audit is receiving under its guards: of the files, or of what stands before the limit of the first that is too long.
+-- An audit is receiving under its guards: of the files, or of what stands before the limit of the
+-- first that is too long.
 use Rattle.std.specs.Prelude.{◌≡◌, ℕ, ◌+◌, Bool, true, false, List, [], ◌∷◌, ◌++◌, take, Option, None, Some, if◌then◌else◌}
 use Rattle.std.specs.Option.{option_map}
 use Rattle.std.proofs.Common.{refl, ap, ◌∙◌}

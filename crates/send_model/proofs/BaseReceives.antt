@@ -1,5 +1,6 @@
--- A base that takes items has neither the name nor the uuid of their last part: no step takes an entry away, and the last head was
--- taken where neither was there. So it can itself receive what is composed from them.
+-- A base that takes items has neither the name nor the uuid of their last part: no step takes an
+-- entry away, and the last head was taken where neither was there. So it can itself receive what is
+-- composed from them.
 use Rattle.std.specs.Prelude.{◌≡◌, ℕ, Bool, true, false, ◌||◌, List, [], ◌∷◌, ◌++◌, Option, None, Some, Result, Ok, Err}
 use Rattle.std.specs.List.{list_any}
 use Rattle.std.specs.Str.{bytes_eq}

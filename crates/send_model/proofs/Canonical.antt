@@ -1,4 +1,5 @@
--- The canonical spelling of a command is one lawful frame, and is read back as that command, whatever follows it.
+-- The canonical spelling of a command is one lawful frame, and is read back as that command,
+-- whatever follows it.
 use Rattle.std.specs.Prelude.{◌≡◌, ℕ, Option, zero, suc, ◌+◌, ◌%◌, ◌^◌, ◌<◌, ◌≤◌, ◌==◌, Bool, true, false, ◌&&◌, ◌||◌, not, nat_lt, nat_le, List, [], ◌∷◌, ◌++◌, length, None, Some, if◌then◌else◌}
 use Rattle.std.specs.List.{AllByRecursion}
 use Rattle.std.specs.Option.{unwrap_or}

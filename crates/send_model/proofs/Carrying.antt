@@ -8,7 +8,7 @@ use Rattle.send_model.specs.Subvolume.{Subvolume, is_file, is_nameable}
 use Rattle.send_model.specs.Clone.{block_len, cells_of}
 use Rattle.send_model.specs.Store.{Key, same_key, Store, find}
 use Rattle.send_model.specs.Outside.{IsAmong}
-use Rattle.send_model.specs.Provenance.{Place, Traced, same_place, is_at, next_place, come_from, can_serve, carried_from, Piece, Carried, Literal, piece_of, place_after, join_piece, pieces_from, pieces_of, blocks_from, blocks}
+use Rattle.send_model.specs.Provenance.{Place, Traced, same_place, is_at, next_place, come_from, can_serve, carried_from, Piece, Carried, Literal, piece_by, place_after, join_piece, pieces_by, pieces_of, blocks_from, blocks}
 use Rattle.send_model.proofs.ElementLaws.{all_take, all_drop}
 use Rattle.send_model.proofs.Sorts.{same_inside}
 use Rattle.send_model.proofs.Stores.{same_key_true}
@@ -148,17 +148,97 @@ module _ (store : Store ℕ) (keys : List Key) where
           let e : at + len + len' ≡ at + (len + len') = omega arith in
           (c.0, c.1, joined place len len' c.2 n.2 w, n.3, all, subst (λ (k : ℕ). Covers k ps n.3) e n.5)
 
-  -- ---- blocks
+  -- ---- pieces of any cells
 
-  -- Every block but the last is whole, and none is empty.
-  abbrev pub AreBlocks : List (List Traced) → Type 0
-  AreBlocks [] = Unit {0}
-  AreBlocks (b ∷ []) = (1 ≤ length b) × AllByRecursion InPlace b
-  AreBlocks (b ∷ d ∷ more) = (length b ≡ 4096) × AllByRecursion InPlace b × AreBlocks (d ∷ more)
+  -- Cells with bytes, a property of each, and the place from which a block can be cloned: its bytes
+  -- stand there.
+  module _ {C : Type 0} (byte_in : C → ℕ) (P : C → Type 0) (source : List C → Option Place)
+      (serves : (block : List C) (place : Place) → 1 ≤ length block → source block ≡ Some place → AllByRecursion P block → (h : Serves place (length block)) × (bytes_at place (length block) h ≡ map byte_in block)) where
+    -- Every block but the last is whole, and none is empty.
+    abbrev pub AreBlocks : List (List C) → Type 0
+    AreBlocks [] = Unit {0}
+    AreBlocks (b ∷ []) = (1 ≤ length b) × AllByRecursion P b
+    AreBlocks (b ∷ d ∷ more) = (length b ≡ 4096) × AllByRecursion P b × AreBlocks (d ∷ more)
 
-  abbrev pub flat : List (List Traced) → List Traced
-  flat [] = []
-  flat (b ∷ more) = b ++ flat more
+    abbrev pub flat : List (List C) → List C
+    flat [] = []
+    flat (b ∷ more) = b ++ flat more
+
+    one_piece : (at : ℕ) (block : List C) (ps : List Piece) (rest : List ℕ) → at % 4096 ≡ 0 → 1 ≤ length block → AllByRecursion P block → Covers (at + length block) ps rest → Covers at (piece_by byte_in source at block ∷ ps) (map byte_in block ++ rest)
+    one_piece at block ps rest even some all more = one (source block) refl
+      where
+        one : (o : Option Place) → source block ≡ o → Covers at ((elim o as (λ x. Piece) [ None ↦ Literal at (map byte_in block) | Some place ↦ Carried at place (length block) ]) ∷ ps) (map byte_in block ++ rest)
+        one None e = (refl, rest, refl, subst (λ (k : ℕ). Covers (at + k) ps rest) (sym (length-map block byte_in)) more)
+        one (Some place) e = let s = serves block place some e all in (refl, even, s.0, rest, ap (λ (r : List ℕ). r ++ rest) (sym s.1), more)
+
+    carried_len : (at : ℕ) (block : List C) (here : ℕ) (place : Place) (len : ℕ) → piece_by byte_in source at block ≡ Carried here place len → length block ≡ len
+    carried_len at block here place len e = one (source block) e
+      where
+        len_of : Piece → ℕ
+        len_of (Carried a p n) = n
+        len_of (Literal a bs) = 0
+
+        one : (o : Option Place) → (elim o as (λ x. Piece) [ None ↦ Literal at (map byte_in block) | Some p ↦ Carried at p (length block) ]) ≡ Carried here place len → length block ≡ len
+        one None q = cc
+        one (Some p) q = ap len_of q
+
+    pieces_cover : (at : ℕ) (bs : List (List C)) → at % 4096 ≡ 0 → AreBlocks bs → Covers at (pieces_by byte_in source at bs) (map byte_in (flat bs))
+    pieces_cover at [] even bs = refl
+    pieces_cover at (b ∷ []) even bs =
+        subst (λ (r : List ℕ). Covers at (join_piece (piece_by byte_in source at b) []) r) (sym (map-append byte_in b []))
+        (join_covers at (piece_by byte_in source at b) [] (map byte_in b ++ []) (λ here place len e. inl refl) (one_piece at b [] [] even bs.0 bs.1 refl))
+    pieces_cover at (b ∷ d ∷ more) even bs =
+        let rest = pieces_cover (at + length b) (d ∷ more) (omega (arith, even, bs.0)) bs.2 in
+        subst (λ (r : List ℕ). Covers at (join_piece (piece_by byte_in source at b) (pieces_by byte_in source (at + length b) (d ∷ more))) r) (sym (map-append byte_in b (flat (d ∷ more))))
+        (join_covers at (piece_by byte_in source at b) (pieces_by byte_in source (at + length b) (d ∷ more)) (map byte_in b ++ map byte_in (flat (d ∷ more)))
+        (λ here place len e. let n = carried_len at b here place len e in inr (omega (arith, n, bs.0)))
+        (one_piece at b (pieces_by byte_in source (at + length b) (d ∷ more)) (map byte_in (flat (d ∷ more))) even (let l = bs.0 in omega (arith, l)) bs.1 rest))
+
+    -- ---- the blocks of a range
+
+    -- Blocks of any length above 0.
+    abbrev cut : ℕ → ℕ → List C → List (List C)
+    cut w zero cells = []
+    cut w (suc n) [] = []
+    cut w (suc n) (c ∷ cells) = take (suc w) (c ∷ cells) ∷ cut w n (drop (suc w) (c ∷ cells))
+
+    cut_is : (w : ℕ) → block_len ≡ suc w → (n : ℕ) (cells : List C) → blocks_from n cells ≡ cut w n cells
+    cut_is w e zero cells = refl
+    cut_is w e (suc n) [] = refl
+    cut_is w e (suc n) (c ∷ cells) =
+        let more : ℕ → List (List C) = λ m. take m (c ∷ cells) ∷ blocks_from n (drop m (c ∷ cells)) in
+        ap more e ∙ ap (λ (r : List (List C)). take (suc w) (c ∷ cells) ∷ r) (cut_is w e n (drop (suc w) (c ∷ cells)))
+
+    cut_flat : (w n : ℕ) (cells : List C) → length cells ≤ n → flat (cut w n cells) ≡ cells
+    cut_flat w zero [] l = refl
+    cut_flat w zero (c ∷ cells) l = absurd (omega (arith, l))
+    cut_flat w (suc n) [] l = refl
+    cut_flat w (suc n) (c ∷ cells) l =
+        let d = length-drop w cells in
+        ap (λ (r : List C). take (suc w) (c ∷ cells) ++ r) (cut_flat w n (drop w cells) (omega (arith, l, d))) ∙ ap (λ (r : List C). c ∷ r) (take-append-drop w cells)
+
+    cut_blocks : (w n : ℕ) (cells : List C) → suc w ≡ 4096 → AllByRecursion P cells → AreBlocks (cut w n cells)
+    cut_blocks w zero cells e all = tt
+    cut_blocks w (suc n) [] e all = tt
+    cut_blocks w (suc n) (c ∷ cells) e all = one n (drop w cells) refl (cut_blocks w n (drop w cells) e (all_drop P w cells all.1))
+      where
+        first : AllByRecursion P (c ∷ take w cells)
+        first = (all.0, all_take P w cells all.1)
+
+        one : (m : ℕ) (rest : List C) → rest ≡ drop w cells → AreBlocks (cut w m rest) → AreBlocks ((c ∷ take w cells) ∷ cut w m rest)
+        one zero rest r more = (omega arith, first)
+        one (suc m) [] r more = (omega arith, first)
+        one (suc m) (d ∷ rest) r more = (omega (arith, e, ap length r, length-drop w cells, length-take w cells), first, more)
+
+    -- The pieces of a range of cells that have the property stand for its bytes.
+    pub all_covered : (range : List C) → AllByRecursion P range → Covers 0 (pieces_by byte_in source 0 (blocks range)) (map byte_in range)
+    unfolding blocks
+    all_covered range all =
+        let bs : List (List C) = cut 4095 (length range) range in
+        let same : blocks_from (length range) range ≡ bs = cut_is 4095 refl (length range) range in
+        let c = pieces_cover 0 bs refl (cut_blocks 4095 (length range) range refl all) in
+        subst (λ (b : List (List C)). Covers 0 (pieces_by byte_in source 0 b) (map byte_in range)) (sym same)
+        (subst (λ (r : List C). Covers 0 (pieces_by byte_in source 0 bs) (map byte_in r)) (cut_flat 4095 (length range) range (omega arith)) c)
 
   serving : (o : Option (Subvolume ℕ)) (place : Place) (block : List Traced) → find store place.key ≡ o → IsAmong place.key keys → come_from place block ≡ true → can_serve o place (length block) ≡ true → 1 ≤ length block → AllByRecursion InPlace block
       → (h : Serves place (length block)) × (bytes_at place (length block) h ≡ map (λ c. c.byte) block)
@@ -188,7 +268,9 @@ module _ (store : Store ℕ) (keys : List Key) where
         bytes,
       )
 
-  carried_serves : (block : List Traced) (place : Place) → carried_from store block ≡ Some place → AllByRecursion InPlace block → (h : Serves place (length block)) × (bytes_at place (length block) h ≡ map (λ c. c.byte) block)
+  -- ---- blocks that are carried
+
+  pub carried_serves : (block : List Traced) (place : Place) → carried_from store block ≡ Some place → AllByRecursion InPlace block → (h : Serves place (length block)) × (bytes_at place (length block) h ≡ map (λ c. c.byte) block)
   unfolding carried_from
   carried_serves [] place e all = cc
   carried_serves (c ∷ cells) place e all = one c.place refl e all.0
@@ -206,78 +288,7 @@ module _ (store : Store ℕ) (keys : List Key) where
               subst (λ (x : Place). (h : Serves x (length (c ∷ cells))) × (bytes_at x (length (c ∷ cells)) h ≡ map (λ (d : Traced). d.byte) (c ∷ cells))) (same_inside r)
               (serving (find store p.key) p (c ∷ cells) refl in_place.among bs.0 bs.1 (omega arith) all)
 
-  one_piece : (at : ℕ) (block : List Traced) (ps : List Piece) (rest : List ℕ) → at % 4096 ≡ 0 → AllByRecursion InPlace block → Covers (at + length block) ps rest → Covers at (piece_of store at block ∷ ps) (map (λ c. c.byte) block ++ rest)
-  one_piece at block ps rest even all more = one (carried_from store block) refl
-    where
-      one : (o : Option Place) → carried_from store block ≡ o → Covers at ((elim o as (λ x. Piece) [ None ↦ Literal at (map (λ c. c.byte) block) | Some place ↦ Carried at place (length block) ]) ∷ ps) (map (λ c. c.byte) block ++ rest)
-      one None e = (refl, rest, refl, subst (λ (k : ℕ). Covers (at + k) ps rest) (sym (length-map block (λ c. c.byte))) more)
-      one (Some place) e = let s = carried_serves block place e all in (refl, even, s.0, rest, ap (λ (r : List ℕ). r ++ rest) (sym s.1), more)
-
-  carried_len : (at : ℕ) (block : List Traced) (here : ℕ) (place : Place) (len : ℕ) → piece_of store at block ≡ Carried here place len → length block ≡ len
-  carried_len at block here place len e = one (carried_from store block) e
-    where
-      len_of : Piece → ℕ
-      len_of (Carried a p n) = n
-      len_of (Literal a bs) = 0
-
-      one : (o : Option Place) → (elim o as (λ x. Piece) [ None ↦ Literal at (map (λ c. c.byte) block) | Some p ↦ Carried at p (length block) ]) ≡ Carried here place len → length block ≡ len
-      one None q = cc
-      one (Some p) q = ap len_of q
-
-  pieces_cover : (at : ℕ) (bs : List (List Traced)) → at % 4096 ≡ 0 → AreBlocks bs → Covers at (pieces_from store at bs) (map (λ c. c.byte) (flat bs))
-  pieces_cover at [] even bs = refl
-  pieces_cover at (b ∷ []) even bs =
-      subst (λ (r : List ℕ). Covers at (join_piece (piece_of store at b) []) r) (sym (map-append (λ (c : Traced). c.byte) b []))
-      (join_covers at (piece_of store at b) [] (map (λ c. c.byte) b ++ []) (λ here place len e. inl refl) (one_piece at b [] [] even bs.1 refl))
-  pieces_cover at (b ∷ d ∷ more) even bs =
-      let rest = pieces_cover (at + length b) (d ∷ more) (omega (arith, even, bs.0)) bs.2 in
-      subst (λ (r : List ℕ). Covers at (join_piece (piece_of store at b) (pieces_from store (at + length b) (d ∷ more))) r) (sym (map-append (λ (c : Traced). c.byte) b (flat (d ∷ more))))
-      (join_covers at (piece_of store at b) (pieces_from store (at + length b) (d ∷ more)) (map (λ c. c.byte) b ++ map (λ c. c.byte) (flat (d ∷ more)))
-      (λ here place len e. let n = carried_len at b here place len e in inr (omega (arith, n, bs.0)))
-      (one_piece at b (pieces_from store (at + length b) (d ∷ more)) (map (λ c. c.byte) (flat (d ∷ more))) even bs.1 rest))
-
-  -- ---- the blocks of a range
-
-  -- Blocks of any length above 0.
-  abbrev cut : ℕ → ℕ → List Traced → List (List Traced)
-  cut w zero cells = []
-  cut w (suc n) [] = []
-  cut w (suc n) (c ∷ cells) = take (suc w) (c ∷ cells) ∷ cut w n (drop (suc w) (c ∷ cells))
-
-  cut_is : (w : ℕ) → block_len ≡ suc w → (n : ℕ) (cells : List Traced) → blocks_from n cells ≡ cut w n cells
-  cut_is w e zero cells = refl
-  cut_is w e (suc n) [] = refl
-  cut_is w e (suc n) (c ∷ cells) =
-      let more : ℕ → List (List Traced) = λ m. take m (c ∷ cells) ∷ blocks_from n (drop m (c ∷ cells)) in
-      ap more e ∙ ap (λ (r : List (List Traced)). take (suc w) (c ∷ cells) ∷ r) (cut_is w e n (drop (suc w) (c ∷ cells)))
-
-  cut_flat : (w n : ℕ) (cells : List Traced) → length cells ≤ n → flat (cut w n cells) ≡ cells
-  cut_flat w zero [] l = refl
-  cut_flat w zero (c ∷ cells) l = absurd (omega (arith, l))
-  cut_flat w (suc n) [] l = refl
-  cut_flat w (suc n) (c ∷ cells) l =
-      let d = length-drop w cells in
-      ap (λ (r : List Traced). take (suc w) (c ∷ cells) ++ r) (cut_flat w n (drop w cells) (omega (arith, l, d))) ∙ ap (λ (r : List Traced). c ∷ r) (take-append-drop w cells)
-
-  cut_blocks : (w n : ℕ) (cells : List Traced) → suc w ≡ 4096 → AllByRecursion InPlace cells → AreBlocks (cut w n cells)
-  cut_blocks w zero cells e all = tt
-  cut_blocks w (suc n) [] e all = tt
-  cut_blocks w (suc n) (c ∷ cells) e all = one n (drop w cells) refl (cut_blocks w n (drop w cells) e (all_drop InPlace w cells all.1))
-    where
-      first : AllByRecursion InPlace (c ∷ take w cells)
-      first = (all.0, all_take InPlace w cells all.1)
-
-      one : (m : ℕ) (rest : List Traced) → rest ≡ drop w cells → AreBlocks (cut w m rest) → AreBlocks ((c ∷ take w cells) ∷ cut w m rest)
-      one zero rest r more = (omega arith, first)
-      one (suc m) [] r more = (omega arith, first)
-      one (suc m) (d ∷ rest) r more = (omega (arith, e, ap length r, length-drop w cells, length-take w cells), first, more)
-
   -- The pieces of a range stand for its bytes.
   pub range_covered : (range : List Traced) → AllByRecursion InPlace range → Covers 0 (pieces_of store range) (map (λ c. c.byte) range)
-  unfolding pieces_of blocks
-  range_covered range all =
-      let bs : List (List Traced) = cut 4095 (length range) range in
-      let same : blocks_from (length range) range ≡ bs = cut_is 4095 refl (length range) range in
-      let c = pieces_cover 0 bs refl (cut_blocks 4095 (length range) range refl all) in
-      subst (λ (b : List (List Traced)). Covers 0 (pieces_from store 0 b) (map (λ (x : Traced). x.byte) range)) (sym same)
-      (subst (λ (r : List Traced). Covers 0 (pieces_from store 0 bs) (map (λ (x : Traced). x.byte) r)) (cut_flat 4095 (length range) range (omega arith)) c)
+  unfolding pieces_of
+  range_covered range all = all_covered (λ c. c.byte) InPlace (carried_from store) (λ block place some e a. carried_serves block place e a) range all

@@ -1,5 +1,5 @@
--- Edits, clones and steps move cells and never look at them: over other cells they are refused alike, and lead to the same
--- subvolumes with those cells in them.
+-- Edits, clones and steps move cells and never look at them: over other cells they are refused
+-- alike, and lead to the same subvolumes with those cells in them.
 use Rattle.std.specs.Prelude.{◌≡◌, ℕ, ◌+◌, Bool, true, false, not, ◌&&◌, ◌||◌, List, [], map, length, Option, None, Some, Result, Ok, Err, ◌==◌, nat_le, is_some, if◌then◌else◌}
 use Rattle.std.specs.Ordering.{nat_cmp}
 use Rattle.std.specs.Option.{option_map}

@@ -1,5 +1,5 @@
--- Steps and runs over other cells are the same steps and runs: what is accepted, and where a refusal stands, does not depend
--- on what stands in the cells.
+-- Steps and runs over other cells are the same steps and runs: what is accepted, and where a
+-- refusal stands, does not depend on what stands in the cells.
 use Rattle.std.specs.Prelude.{◌≡◌, ℕ, Bool, true, false, ◌||◌, List, [], ◌∷◌, map, Option, None, Some, Result, Ok, Err, if◌then◌else◌}
 use Rattle.std.specs.Option.{option_map}
 use Rattle.std.specs.Str.{bytes_eq}

@@ -1,4 +1,5 @@
--- Laws of the checksum: it is linear in exclusive-or, goes on over joined lists, and keeps to 32 bits.
+-- Laws of the checksum: it is linear in exclusive-or, goes on over joined lists, and keeps to 32
+-- bits.
 use Rattle.std.proofs.Common.{◌≡◌, ℕ, zero, suc, ◌+◌, ◌*◌, ◌/◌, ◌%◌, ◌^◌, ◌<◌, ◌⊎◌, inl, inr, List, [], ◌∷◌, ◌++◌, length, bit_xor, refl, sym, ap, ◌∙◌, arith, zero-add, add-one, pow-suc, get_or, drop, drop-cons, ◌≤◌, lit<}
 use Rattle.std.proofs.Math.ListN.{drop_of_length-le}
 use Rattle.std.proofs.Math.Nat.{suc-add}
@@ -148,7 +149,8 @@ crc_of-xor first second bytes =
     ∙ xor_assoc (shifts (8 * length bytes) second) (shifts (8 * length bytes) first) (crc_of 0 bytes)
     ∙ ap (bit_xor (shifts (8 * length bytes) second)) (sym (crc_of-split first bytes))
 
--- A list's checksum by its first byte: what the low eight bits become past the whole list, and the others over the rest.
+-- A list's checksum by its first byte: what the low eight bits become past the whole list, and the
+-- others over the rest.
 pub crc_of-cons : (crc byte : ℕ) (rest : List ℕ) → byte < 256 →
     crc_of crc (byte ∷ rest) ≡ bit_xor (shifts (8 * suc (length rest)) (bit_xor crc byte % 256)) (crc_of (crc / 256) rest)
 unfolding crc_of

@@ -1,5 +1,6 @@
--- Worked examples of each command: what it changes, and its refusals in their order. What is expected is written down from the
--- manual pages of the system calls, and for orders and limits from the profile of this program in words.
+-- Worked examples of each command: what it changes, and its refusals in their order. What is
+-- expected is written down from the manual pages of the system calls, and for orders and limits
+-- from the profile of this program in words.
 use Rattle.std.specs.Prelude.{◌≡◌, ℕ, List, [], ◌∷◌, ◌++◌, Option, None, Some, Result, Ok, Err, replicate, codes, refl, map}
 use Rattle.send_model.specs.Refusal.{Refusal, BadPath, NoEntry, NotDirectory, EntryThere, IsDirectory, NotEmpty, IntoItself, NotFile, BadXattr, NoXattr, BadDevice, IsRoot, FileTooBig, NoSource, BadRange, Unaligned, Overlap, BadFallocate, NoNumber, NoSubvolume, BadName, NameThere, UuidThere, NoParent}
 use Rattle.send_model.specs.Command.{Command, Subvol, Snapshot, MkFile, MkDir, MkNod, MkFifo, MkSock, Symlink, Rename, Link, Unlink, Rmdir, SetXattr, RemoveXattr, Write, Clone, Truncate, Chmod, Chown, Utimes, UpdateExtent, Fallocate, FileAttr}
@@ -503,7 +504,8 @@ parent_there : step_refused (Snapshot (uuid 0x33) 3 (codes "x") (uuid 0x11) 1) �
 unfolding composing_words
 parent_there = refl
 
--- A part and a file in it; then a head of the same name, which is refused: it has completed the part before it, and there is none.
+-- A part and a file in it; then a head of the same name, which is refused: it has completed the
+-- part before it, and there is none.
 abbrev first_begun : State ℕ
 first_begun = (step 0 [] (start_of []) (Subvol (uuid 0x11) 1 (codes "a"))).state
 
@@ -522,7 +524,8 @@ part_goes_on = refl
 
 -- ---- clones
 
--- A part with a file of two blocks and a bit, and one of a block; and the same as a complete subvolume.
+-- A part with a file of two blocks and a bit, and one of a block; and the same as a complete
+-- subvolume.
 abbrev blocks : Subvolume ℕ
 blocks = record {
   inodes = (256, directory) ∷ (257, file (replicate 4_096 0x61 ++ replicate 4_096 0x62 ++ replicate 10 0x63)) ∷ (258, file (replicate 4_096 0x64)) ∷ [];

@@ -1,4 +1,5 @@
--- A command is read back from the attributes that it wants, in whatever order they stand and whatever stands beside them.
+-- A command is read back from the attributes that it wants, in whatever order they stand and
+-- whatever stands beside them.
 use Rattle.std.specs.Prelude.{◌≡◌, ℕ, ◌^◌, ◌<◌, ◌==◌, ◌&&◌, Bool, true, false, List, [], ◌∷◌, length, Some, Ok, nat_lt}
 use Rattle.std.specs.List.{AllByRecursion, list_all}
 use Rattle.std.proofs.Common.{refl, ap, ◌∙◌, arith, lt-ltb, eq-eqb}

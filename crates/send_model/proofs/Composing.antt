@@ -1,5 +1,5 @@
--- The composed commands of consecutive parts without clones, received anywhere: every store that finds the first part's parent
--- accepts them, and gets the last part's subvolume.
+-- The composed commands of consecutive parts without clones, received anywhere: every store that
+-- finds the first part's parent accepts them, and gets the last part's subvolume.
 use Rattle.std.specs.Prelude.{◌≡◌, ◌≢◌, ℕ, true, false, List, [], ◌∷◌, ◌++◌, Option, None, Some, Result, Ok}
 use Rattle.std.specs.List.{AllByRecursion}
 use Rattle.std.proofs.Common.{refl, sym, ap, subst, ◌∙◌, inl}

@@ -1,5 +1,5 @@
--- Worked examples of composing: the commands that stand for consecutive parts, and the blocks of redirected clones that a
--- subvolume outside the parts carries.
+-- Worked examples of composing: the commands that stand for consecutive parts, and the blocks of
+-- redirected clones that a subvolume outside the parts carries.
 use Rattle.std.specs.Prelude.{◌≡◌, ℕ, List, [], ◌∷◌, ◌++◌, map, replicate, None, codes, refl}
 use Rattle.std.specs.List.{sum_by, count_by}
 use Rattle.send_model.specs.Command.{Command, Subvol, Snapshot, MkFile, Rename, Unlink, Write, Clone, Truncate, End}
@@ -28,7 +28,8 @@ merged_commands =
     ∷ End
     ∷ []
 
--- Over a store with nothing in it, two files become the head of the second without a parent, the edits of both, and one END.
+-- Over a store with nothing in it, two files become the head of the second without a parent, the
+-- edits of both, and one END.
 two_files_composed : composed [] two_files ≡ merged_commands
 unfolding first_stream second_stream reading_words composing_words
 two_files_composed = refl
@@ -45,10 +46,11 @@ two_files_counts = (refl, refl)
 
 -- ---- commands in place of files
 
--- The examples with clones begin at the commands, by a word for each definition that speaks of files.
+-- The examples with clones begin at the commands, by a word for each definition that speaks of
+-- files.
 
--- Of items that are received into a store: the composed commands, the pieces of each redirected clone, how many cells of
--- these are not carried, and how many runs are.
+-- Of items that are received into a store: the composed commands, the pieces of each redirected
+-- clone, how many cells of these are not carried, and how many runs are.
 abbrev composed_items : Store ℕ → List Item → List Command
 composed_items store items = composed_for store (first_head (heads items)) (last_head (heads items)) items
 
@@ -195,7 +197,8 @@ cut_composed = refl
 abbrev one_block : Store ℕ
 one_block = store_of (one_file (replicate 4_096 0x73) (codes "src" ∷ []))
 
--- A snapshot that renames it, one that clones it and removes it, and two that clone the clone before.
+-- A snapshot that renames it, one that clones it and removes it, and two that clone the clone
+-- before.
 abbrev clones_of_clones : List Item
 clones_of_clones = items (
     Snapshot (uuid 0x22) 2 (codes "q") (uuid 0x11) 1
@@ -267,7 +270,8 @@ inner_composed = refl
 
 -- ---- what is left of the base, and what stands before a refusal
 
--- Only a part's own uuid goes from the base, and not the name that it shares with a subvolume there.
+-- Only a part's own uuid goes from the base, and not the name that it shares with a subvolume
+-- there.
 same_name_stays : base_of (store_of (one_file [] [])) (items (Subvol (uuid 0x22) 1 (codes "p") ∷ End ∷ [])) ≡ store_of (one_file [] [])
 unfolding composing_words
 same_name_stays = refl

@@ -6,7 +6,8 @@ use Rattle.send_model.specs.Lengths.{limit, is_too_long, too_long, too_long_from
 use Rattle.send_model.specs.Receive.{run_by}
 use Rattle.send_model.specs.Guards.{MostBytes, MostCommands, NoDevices, guard_of, new_guard, guard_refuses, guard_after, refused_from, looked}
 use Rattle.send_model.specs.Due.{Due, DoneWhole, RefusedAt, due_from, compose_due, limited_from, audit_due, accepted_line, file_due, TooLong, most_literal, compose_due_of}
-use Rattle.send_model.specs.Words.{Compose, Audit, Dump, Gen, guards_and_files, request_of, StandsRefused}
+use Rattle.send_model.specs.Words.{Request, Compose, Audit, Dump, Export, Gen, guards_and_files, request_of, StandsRefused, EndSays}
+use Rattle.send_model.specs.Sources.{Sources, StandsRefusedOf, EndSaysOf}
 use Rattle.send_model.specs.Reading.{Reading}
 use Rattle.send_model.specs.Store.{Store}
 use Rattle.send_model.specs.Headline.{IsProperFrontOf}
@@ -22,7 +23,8 @@ due_words = tt
 abbrev at : ℕ → ℕ → ℕ → Refusal → Due
 at file command offset refusal = RefusedAt (record { file = file; command = command; offset = offset; refusal = refusal })
 
--- A snapshot of the first part in place of one of the second; a stream without a part, and one whose checksum is zero.
+-- A snapshot of the first part in place of one of the second; a stream without a part, and one
+-- whose checksum is zero.
 abbrev third_stream : List ℕ
 third_stream =
     hexadecimal (codes "62747266732d73747265616d0001000000")
@@ -126,9 +128,23 @@ long_not_dumped : (bytes : List ℕ) → is_too_long 1 bytes ≡ true → file_d
 unfolding file_due
 long_not_dumped bytes e = rw e refl
 
--- What stands on standard output where a dump is refused is one text, and no front part of it will do.
+-- What stands on standard output where a dump is refused is one text, and no front part of it will
+-- do.
 one_text : (base : Store ℕ) (files : List (List ℕ)) (a b : List ℕ) → StandsRefused (Dump 1) base files a → StandsRefused (Dump 1) base files b → a ≡ b
 one_text base files a b e f = e ∙ sym f
+
+one_exported : (base : Store ℕ) (files : List (List ℕ)) (a b : List ℕ) → StandsRefused (Export 1 2) base files a → StandsRefused (Export 1 2) base files b → a ≡ b
+one_exported base files a b e f = e ∙ sym f
+
+one_exported_of : (base : Store ℕ) (read : Sources) (a b : List ℕ) → StandsRefusedOf (Export 1 2) base read a → StandsRefusedOf (Export 1 2) base read b → a ≡ b
+one_exported_of base read a b e f = e ∙ sym f
+
+-- And so it is of each word that did all that it was asked for.
+one_whole : (request : Request) (base : Store ℕ) (files : List (List ℕ)) (a b : List ℕ) → EndSays request base files DoneWhole a → EndSays request base files DoneWhole b → a ≡ b
+one_whole request base files a b e f = e ∙ sym f
+
+one_whole_of : (request : Request) (base : Store ℕ) (read : Sources) (a b : List ℕ) → EndSaysOf request base read DoneWhole a → EndSaysOf request base read DoneWhole b → a ≡ b
+one_whole_of request base read a b e f = e ∙ sym f
 
 -- Where the output fails at an audit's line, some of the line is missing.
 not_all : (all : List ℕ) → IsProperFrontOf all all → ⊥

@@ -1,4 +1,5 @@
--- Worked examples of edits: renames of hard links and of directories, and clones with a short last block.
+-- Worked examples of edits: renames of hard links and of directories, and clones with a short last
+-- block.
 use Rattle.std.specs.Prelude.{◌≡◌, ℕ, List, [], ◌∷◌, ◌++◌, Result, Ok, Err, replicate, codes, refl}
 use Rattle.send_model.specs.Refusal.{Refusal, EntryThere, NotEmpty, IntoItself, NoSource, BadRange, Unaligned, Overlap}
 use Rattle.send_model.specs.Chain.{◌>>=◌}
@@ -67,7 +68,8 @@ before cells = record {
 abbrev own : Key
 own = key 0x11 1
 
--- What becomes of the part with a clone of so many bytes, from the start of the first file of the source to that of the second.
+-- What becomes of the part with a clone of so many bytes, from the start of the first file of the
+-- source to that of the second.
 abbrev after_clone : Key → ℕ → List ℕ → Result (Subvolume ℕ) Refusal
 after_clone source len cells =
     edit_part 0 [] [] (record { key = own; subvolume = before cells })
@@ -108,7 +110,8 @@ no_source : after_clone (key 0x99 9) 5_000 [] ≡ Err NoSource
 unfolding edit_part edit_words find
 no_source = refl
 
--- Two names of one file are one file: a clone from one to the other overlaps as one on a single name does.
+-- Two names of one file are one file: a clone from one to the other overlaps as one on a single
+-- name does.
 overlap_by_names : edit_part 0 [] [] (record { key = own; subvolume = one_file (replicate 12_288 0x61) (codes "x" ∷ codes "y" ∷ []) })
     (Clone (codes "x") 4_096 own.uuid own.ctransid (codes "y") 0 8_192) ≡ Err Overlap
 unfolding edit_part edit_words

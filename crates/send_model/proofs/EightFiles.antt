@@ -1,4 +1,5 @@
--- Subvolumes of eight files of three blocks each: what the commands of a generated chain do to them.
+-- Subvolumes of eight files of three blocks each: what the commands of a generated chain do to
+-- them.
 use Rattle.std.specs.Prelude.{◌≡◌, ℕ, zero, suc, ◌+◌, ◌<◌, ◌≤◌, ◌==◌, Bool, true, false, List, [], ◌∷◌, length, take, drop, Some, Result, Ok, Err, is_some, nat_le, nat_lt, codes, if◌then◌else◌}
 use Rattle.std.specs.Fmt.{digits}
 use Rattle.std.proofs.Common.{refl, ap, ◌∙◌, arith, length-append}

@@ -1,4 +1,5 @@
--- The one part that composed commands make elsewhere, the stores in which it can be made, and the law of redirected clones.
+-- The one part that composed commands make elsewhere, the stores in which it can be made, and the
+-- law of redirected clones.
 use Rattle.std.specs.Prelude.{◌≡◌, ℕ, false, List, Some, Ok}
 use Rattle.std.specs.List.{flat_map}
 use Rattle.std.specs.Ordering.{nat_cmp}

@@ -1,5 +1,6 @@
--- Words for worked examples: bytes from hexadecimal digits, keys whose uuid is one byte repeated, files and directories as
--- they are made, a store of one subvolume, and items that are made of commands alone.
+-- Words for worked examples: bytes from hexadecimal digits, keys whose uuid is one byte repeated,
+-- files and directories as they are made, a store of one subvolume, and items that are made of
+-- commands alone.
 use Rattle.std.specs.Prelude.{ℕ, ◌+◌, ◌-◌, ◌*◌, List, [], ◌∷◌, map, replicate, None, Some, codes, nat_lt, if◌then◌else◌}
 use Rattle.send_model.specs.Checksum.{crc_of, crc_byte, shift, shifts}
 use Rattle.send_model.specs.Path.{is_name, between_slashes, path_names}

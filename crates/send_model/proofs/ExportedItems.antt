@@ -1,4 +1,5 @@
--- Items with separators stand as whole streams, say the separated commands, and separators can go wherever the items lead.
+-- Items with separators stand as whole streams, say the separated commands, and separators can go
+-- wherever the items lead.
 use Rattle.std.specs.Prelude.{◌≡◌, ◌≢◌, ℕ, ◌<◌, ◌^◌, Bool, true, false, not, ◌&&◌, List, [], ◌∷◌, ◌++◌, map, length, Option, None, Some, Result, Ok, Err, if◌then◌else◌}
 use Rattle.std.specs.List.{AllByRecursion}
 use Rattle.std.specs.Str.{bytes_eq}

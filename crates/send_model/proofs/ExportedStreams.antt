@@ -1,5 +1,5 @@
--- What export promises of what it wrote: all of it follows from the commands that are read, and from what they do over each store
--- that finds the same.
+-- What export promises of what it wrote: all of it follows from the commands that are read, and
+-- from what they do over each store that finds the same.
 use Rattle.std.specs.Prelude.{◌≡◌, ◌≢◌, ◌⊎◌, ℕ, Bool, true, false, not, ◌||◌, List, [], ◌∷◌, ◌++◌, map, length, Option, None, Some, if◌then◌else◌}
 use Rattle.std.specs.Option.{option_map}
 use Rattle.std.specs.List.{AllByRecursion, filter}

@@ -1,4 +1,5 @@
--- The receivable spelling spells its command, and an exported file is read as the same commands in the same streams.
+-- The receivable spelling spells its command, and an exported file is read as the same commands in
+-- the same streams.
 use Rattle.std.specs.Prelude.{◌≡◌, ◌≢◌, ℕ, zero, suc, ◌+◌, ◌-◌, ◌==◌, ◌<◌, ◌≤◌, Bool, true, false, List, [], ◌∷◌, ◌++◌, map, length, drop, None, Some, Result, Ok, Err, if◌then◌else◌}
 use Rattle.std.specs.List.{AllByRecursion}
 use Rattle.std.specs.Int.{w32, w64, to_le_bytes}
@@ -160,7 +161,8 @@ receivable_long : (version : ℕ) (c : Command) → 10 ≤ length (receivable ve
 unfolding receivable frame_of
 receivable_long version c = omega arith
 
--- One command and what follows it. The bytes of what follows are none where the file ends there, and else are not.
+-- One command and what follows it. The bytes of what follows are none where the file ends there,
+-- and else are not.
 one_again : (version : ℕ) (item : Item) (rest : List Item) (following : List ℕ) (end : Bool) → item.version ≡ version → CanWrite version item.command → end ≡ is_end item.command
     → may_end (due_by version end) following ≡ false → ((m file number offset : ℕ) → length following < m → Same (reads_from m file (due_by version end) number offset following) rest)
     → (m file number offset : ℕ) → length (receivable version item.command ++ following) < m → Same (reads_from m file (CommandDue version) number offset (receivable version item.command ++ following)) (item ∷ rest)
@@ -262,7 +264,8 @@ goes_under version items read g = record {
 
 -- ---- whole streams
 
--- Items that stand as whole streams of what can be written, one after the other, from what is due on.
+-- Items that stand as whole streams of what can be written, one after the other, from what is due
+-- on.
 abbrev pub StandsIn : Due → List Item → Type 0
 StandsIn HeaderDue [] = Unit {0}
 StandsIn (CommandDue version) [] = ⊥

@@ -1,4 +1,5 @@
--- Worked examples of guards: which command of a small stream each one refuses, and with what it had counted; and guard words.
+-- Worked examples of guards: which command of a small stream each one refuses, and with what it had
+-- counted; and guard words.
 use Rattle.std.specs.Prelude.{◌≡◌, ℕ, true, false, List, [], ◌∷◌, ◌++◌, None, Some, codes, refl, map}
 use Rattle.send_model.specs.Refusal.{Guarded}
 use Rattle.send_model.specs.Command.{MkNod, Write, Clone, Truncate, Fallocate, Subvol, MkDir, MkFifo, MkSock, Unlink, UpdateExtent}
@@ -13,7 +14,8 @@ unfoldable guard_words : Unit {0}
 unfolding reading_words composing_words run_by receive_under receive_watched guard_refuses guard_after refused_from looked
 guard_words = tt
 
--- A file with two writes, of eight bytes and of one, as an assembler independent of this program makes it.
+-- A file with two writes, of eight bytes and of one, as an assembler independent of this program
+-- makes it.
 unfoldable two_writes : List ℕ
 two_writes =
     hexadecimal (codes "62747266732d73747265616d0001000000")
@@ -74,7 +76,8 @@ clone_uncounted : guard_refuses (new_guard (MostBytes 8)) (Clone (codes "x") 4_0
 unfolding guard_words
 clone_uncounted = refl
 
--- A WRITE with data, a CLONE and a TRUNCATE end somewhere; a WRITE of no bytes and a FALLOCATE end nowhere.
+-- A WRITE with data, a CLONE and a TRUNCATE end somewhere; a WRITE of no bytes and a FALLOCATE end
+-- nowhere.
 ends_above : guard_refuses (with_used (MostEnd 10) 0) (Write (codes "x") 9 (1 ∷ 2 ∷ [])) ≡ true
 unfolding guard_words
 ends_above = refl

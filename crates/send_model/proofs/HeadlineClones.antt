@@ -1,5 +1,5 @@
--- The headline with clones: what is composed from items, and what is written for files, is accepted by every store that finds the
--- same outside subvolumes, and gives it the last part's subvolume.
+-- The headline with clones: what is composed from items, and what is written for files, is accepted
+-- by every store that finds the same outside subvolumes, and gives it the last part's subvolume.
 use Rattle.std.specs.Prelude.{◌≡◌, ◌⊎◌, ℕ, ◌+◌, Bool, true, false, cond, List, [], ◌∷◌, ◌++◌, length, drop, Option, None, Some, zero, suc, if◌then◌else◌}
 use Rattle.std.specs.List.{AllByRecursion, count_by, flat_map}
 use Rattle.std.proofs.Common.{refl, sym, ap, subst, ◌∙◌, arith}
@@ -11,10 +11,10 @@ use Rattle.send_model.specs.Store.{Key, Head, head_of, Store, Part, State, find,
 use Rattle.send_model.specs.Receive.{Run, run_items, byte_cells, receive, receive_of, receive_items, start_of, fault_of, IsAccepted}
 use Rattle.send_model.specs.Order.{onto_heads, heads, heads_of, commands_of, IsConsecutive}
 use Rattle.send_model.specs.Outside.{IsAmong, base_of, keys_outside, all_keys_named, FindsLawful}
-use Rattle.send_model.specs.Provenance.{Traced, Piece, Carried, Literal, is_own, is_redirected, clone_range, pieces_of, traced_step, uuid_after, traced_store}
+use Rattle.send_model.specs.Provenance.{Traced, Piece, Carried, Literal, is_own, is_redirected, clone_range, pieces_of, traced_step, uuid_after, traced_store, uncarried_cells, carried_runs}
 use Rattle.send_model.specs.Counts.{literal, clones, is_end, streams}
-use Rattle.send_model.specs.Composed.{first_head, last_head, head_command, write_len, writes_from, piece_commands, commands_for, composed_from, composed_edits, composed_with}
-use Rattle.send_model.specs.Headline.{AreComposed, CanReceiveOf, IsComposedOf, last_entry}
+use Rattle.send_model.specs.Composed.{first_head, last_head, head_command, write_len, writes_from, piece_commands, commands_for, composed_from, composed_edits, whole_list, composed_with}
+use Rattle.send_model.specs.Headline.{AreComposedBy, AreComposed, CanReceiveOf, IsComposedBy, IsComposedOf, last_entry}
 use Rattle.send_model.proofs.Runs.{Takes, takes_run, runs_taken}
 use Rattle.send_model.proofs.Streams.{IsInner, ReadsAs, stream_read}
 use Rattle.send_model.proofs.Endings.{EndsWell}
@@ -26,10 +26,10 @@ use Rattle.send_model.proofs.ComposedClones.{items_compose}
 
 -- ---- what is composed holds no head and no END
 
-abbrev IsQuiet : Command → Type 0
+abbrev pub IsQuiet : Command → Type 0
 IsQuiet c = (head_of c ≡ None) × (is_end c ≡ false)
 
-abbrev AreQuiet : List Command → Type 0
+abbrev pub AreQuiet : List Command → Type 0
 AreQuiet cs = AllByRecursion IsQuiet cs
 
 heads_past : (cs rest : List Command) → AreQuiet cs → heads_of (cs ++ rest) ≡ heads_of rest
@@ -42,7 +42,7 @@ writes_quiet zero at path bytes = tt
 writes_quiet (suc n) at path [] = tt
 writes_quiet (suc n) at path (b ∷ bytes) = ((refl, refl), writes_quiet n (at + write_len) path (drop write_len (b ∷ bytes)))
 
-pieces_quiet : (store : Store ℕ) (path : List ℕ) (offset : ℕ) (ps : List Piece) → AreQuiet (flat_map (piece_commands store path offset) ps)
+pub pieces_quiet : (store : Store ℕ) (path : List ℕ) (offset : ℕ) (ps : List Piece) → AreQuiet (flat_map (piece_commands store path offset) ps)
 pieces_quiet store path offset [] = tt
 pieces_quiet store path offset (Literal at bytes ∷ ps) =
     all_both IsQuiet (writes_from (length bytes) path (offset + at) bytes) (flat_map (piece_commands store path offset) ps) (writes_quiet (length bytes) (offset + at) path bytes) (pieces_quiet store path offset ps)
@@ -73,7 +73,7 @@ module _ (store : Store ℕ) (parts : List (List ℕ)) (last : Key) where
       all_both IsQuiet (commands_for store parts last state current item.command) (composed_from store parts last (traced_step state item).state (uuid_after current item.command) items)
       (for_quiet state current item.command) (composed_quiet items (traced_step state item).state (uuid_after current item.command))
 
-head_once : (name : List ℕ) (key : Key) (parent : Option Key) (es : List Command) → AreQuiet es → length (heads_of (head_command name key parent ∷ (es ++ End ∷ []))) ≡ 1
+pub head_once : (name : List ℕ) (key : Key) (parent : Option Key) (es : List Command) → AreQuiet es → length (heads_of (head_command name key parent ∷ (es ++ End ∷ []))) ≡ 1
 unfolding heads_of
 head_once name key None es n = rw (heads_past es (End ∷ []) n) refl
 head_once name key (Some k) es n = rw (heads_past es (End ∷ []) n) refl
@@ -86,7 +86,7 @@ quiet_streams (c ∷ cs) rest n = sum_by-cons (λ (d : Command). cond (is_end d)
     zero_more : (n : ℕ) → 0 + n ≡ n
     zero_more n = omega arith
 
-stream_once : (name : List ℕ) (key : Key) (parent : Option Key) (es : List Command) → AreQuiet es → streams (head_command name key parent ∷ (es ++ End ∷ [])) ≡ 1
+pub stream_once : (name : List ℕ) (key : Key) (parent : Option Key) (es : List Command) → AreQuiet es → streams (head_command name key parent ∷ (es ++ End ∷ [])) ≡ 1
 unfolding streams
 stream_once name key parent es n =
     let head : Command = head_command name key parent in
@@ -134,6 +134,48 @@ headline_items store items first last first_is last_is consecutive accepted lawf
       clone_count = whole_clones b first last items;
     }
 
+completed_none : (state : State ℕ) → state.part ≡ None → completed state ≡ state.store
+unfolding completed
+completed_none state e = ap (λ (o : Option (Part ℕ)). elim o as (λ x. Store ℕ) [ None ↦ state.store | Some part ↦ with_contents part.key.uuid part.subvolume state.store ]) e
+
+-- What is written for commands that keep the promise over the items that were read, as one stream,
+-- keeps it over what was read.
+pub composed_reading : (written_bytes runs version : ℕ) (b : Store ℕ) (reading : Reading) (first last : Head) (es : List Command) (written : List ℕ)
+    → reading.end ≡ Whole → EndsWell (commands_of reading.items) → IsConsecutive reading.items → IsAccepted (receive_of b reading)
+    → is_version version ≡ true → AllByRecursion (IsInner version) (head_command last.name last.key first.parent ∷ es)
+    → AreComposedBy written_bytes runs b reading.items (whole_list first last es) → written ≡ stream_header version ++ canonical_all version (whole_list first last es)
+    → IsComposedBy written_bytes runs b reading written
+unfolding receive_items
+composed_reading written_bytes runs version b reading first last es written end_whole ends consecutive accepted read inner k is =
+    let items : List Item = reading.items in
+    let cs : List Command = commands_of items in
+    let list : List Command = whole_list first last es in
+    let ra : ReadsAs (reads 1 written) list = subst (λ (w : List ℕ). ReadsAs (reads 1 w) list) (sym is) (stream_read 1 version (head_command last.name last.key first.parent ∷ es) read inner) in
+    let ran : Run ℕ = run_items 0 byte_cells (start_of b) items in
+    let refused : ran.refused ≡ None = first_none ran.refused (fault_of reading.end) accepted in
+    let none = no_part_at_end cs (start_of b) ran.state ends consecutive.0 (takes_run items (start_of b) refused) in
+    let one : (t : Store ℕ) → CanReceiveOf b items k.last t → receive t (written ∷ []) ≡ record { state = record { store = t ++ last_entry k.first k.last k.subvolume ∷ []; part = None }; refused = None } =
+    λ t can. received_as t written (start_of (t ++ last_entry k.first k.last k.subvolume ∷ [])) ra.whole (k.gets t can.same can.no_name can.no_uuid (reads 1 written).items ra.commands) in
+    record {
+      read_whole = end_whole;
+      accepted = accepted;
+      consecutive = consecutive;
+      first = k.first;
+      last = k.last;
+      subvolume = k.subvolume;
+      first_is = k.first_is;
+      last_is = k.last_is;
+      subvolume_is = ap (λ (st : Store ℕ). find st k.last.key) (sym (completed_none ran.state none)) ∙ k.subvolume_is;
+      whole = ra.whole;
+      one_part = ap (λ (ds : List Command). length (heads_of ds)) ra.commands ∙ k.one_part;
+      one_stream = ap streams ra.commands ∙ k.one_stream;
+      accepted_by = λ t can. ap (λ (r : Run ℕ). r.refused) (one t can);
+      gets = λ t can. ap (λ (r : Run ℕ). r.state.store) (one t can);
+      names_only = subst (λ (ks : List Key). AllByRecursion (λ key. IsAmong key (keys_outside items) ⊎ (key ≡ k.last.key)) ks) (sym (ap all_keys_named ra.commands)) k.names_only;
+      literal_bytes = ap literal ra.commands ∙ k.literal_bytes;
+      clone_count = ap clones ra.commands ∙ k.clone_count;
+    }
+
 -- Everything that is known of what was read and taken in order, and of its composed list.
 pub record IsTaken (version : ℕ) (store : Store ℕ) (reading : Reading) (first last : Head) : Type 0 where
   pub whole : reading.end ≡ Whole
@@ -147,45 +189,14 @@ pub record IsTaken (version : ℕ) (store : Store ℕ) (reading : Reading) (firs
   pub read : is_version version ≡ true
   pub inner : AllByRecursion (IsInner version) (head_command last.name last.key first.parent ∷ composed_edits (base_of store reading.items) last.key reading.items)
 
-completed_none : (state : State ℕ) → state.part ≡ None → completed state ≡ state.store
-unfolding completed
-completed_none state e = ap (λ (o : Option (Part ℕ)). elim o as (λ x. Store ℕ) [ None ↦ state.store | Some part ↦ with_contents part.key.uuid part.subvolume state.store ]) e
-
 -- What compose writes for what was taken in order, clones included.
 pub headline_reading : (version : ℕ) (store : Store ℕ) (reading : Reading) (first last : Head) (written : List ℕ) → IsTaken version store reading first last
     → written ≡ stream_header version ++ canonical_all version (composed_with (base_of store reading.items) first last reading.items)
     → IsComposedOf (base_of store reading.items) reading written
-unfolding headline_items receive_items composed_with
+unfolding receive_items composed_with
 headline_reading version store reading first last written a is =
     let items : List Item = reading.items in
     let b : Store ℕ = base_of store items in
-    let cs : List Command = commands_of items in
-    let es : List Command = composed_edits b last.key items in
-    let hc : Command = head_command last.name last.key first.parent in
-    let list : List Command = hc ∷ (es ++ End ∷ []) in
-    let ra : ReadsAs (reads 1 written) list = subst (λ (w : List ℕ). ReadsAs (reads 1 w) list) (sym is) (stream_read 1 version (hc ∷ es) a.read a.inner) in
-    let ran : Run ℕ = run_items 0 byte_cells (start_of b) items in
-    let refused : ran.refused ≡ None = first_none ran.refused (fault_of reading.end) a.accepted in
-    let k = headline_items store items first last a.first_is a.last_is a.consecutive refused a.lawful in
-    let none = no_part_at_end cs (start_of b) ran.state a.ends a.consecutive.0 (takes_run items (start_of b) refused) in
-    let one : (t : Store ℕ) → CanReceiveOf b items last t → receive t (written ∷ []) ≡ record { state = record { store = t ++ last_entry first last k.subvolume ∷ []; part = None }; refused = None } =
-    λ t can. received_as t written (start_of (t ++ last_entry first last k.subvolume ∷ [])) ra.whole (k.gets t can.same can.no_name can.no_uuid (reads 1 written).items ra.commands) in
-    record {
-      read_whole = a.whole;
-      accepted = a.accepted;
-      consecutive = a.consecutive;
-      first = first;
-      last = last;
-      subvolume = k.subvolume;
-      first_is = a.first_is;
-      last_is = a.last_is;
-      subvolume_is = ap (λ (st : Store ℕ). find st last.key) (sym (completed_none ran.state none)) ∙ k.subvolume_is;
-      whole = ra.whole;
-      one_part = ap (λ (ds : List Command). length (heads_of ds)) ra.commands ∙ k.one_part;
-      one_stream = ap streams ra.commands ∙ k.one_stream;
-      accepted_by = λ t can. ap (λ (r : Run ℕ). r.refused) (one t can);
-      gets = λ t can. ap (λ (r : Run ℕ). r.state.store) (one t can);
-      names_only = subst (λ (ks : List Key). AllByRecursion (λ key. IsAmong key (keys_outside items) ⊎ (key ≡ last.key)) ks) (sym (ap all_keys_named ra.commands)) k.names_only;
-      literal_bytes = ap literal ra.commands ∙ k.literal_bytes;
-      clone_count = ap clones ra.commands ∙ k.clone_count;
-    }
+    let refused = first_none (run_items 0 byte_cells (start_of b) items).refused (fault_of reading.end) a.accepted in
+    composed_reading (uncarried_cells b items) (carried_runs b items) version b reading first last (composed_edits b last.key items) written a.whole a.ends a.consecutive a.accepted a.read a.inner
+    (headline_items store items first last a.first_is a.last_is a.consecutive refused a.lawful) is

@@ -1,8 +1,9 @@
--- The headline with clones holds of a worked example, so its premises can be met with a redirected clone and a carried run.
+-- The headline with clones holds of a worked example, so its premises can be met with a redirected
+-- clone and a carried run.
 use Rattle.std.specs.Prelude.{◌≡◌, ℕ, List, [], ◌∷◌, ◌++◌, replicate, Bool, true, false, if◌then◌else◌, None, Some, Ok, codes}
 use Rattle.std.proofs.Common.{refl, sym, ap, subst}
 use Rattle.send_model.specs.Command.{Snapshot, MkFile, Link, Write, Clone, End, Subvol}
-use Rattle.send_model.specs.Reading.{Item}
+use Rattle.send_model.specs.Reading.{Item, Reading}
 use Rattle.send_model.specs.Subvolume.{Subvolume, root_alone, IsSound, IsLawful}
 use Rattle.send_model.specs.Edit.{edit}
 use Rattle.send_model.specs.Store.{Key, Head, Store, same_key, find}
@@ -10,8 +11,9 @@ use Rattle.send_model.specs.Receive.{run_by, run_items, byte_cells, start_of, Is
 use Rattle.send_model.specs.Order.{heads, IsConsecutive}
 use Rattle.send_model.specs.Outside.{base_of, keys_outside, FindsLawful}
 use Rattle.send_model.specs.Composed.{composed_of}
-use Rattle.send_model.specs.Headline.{AreComposed, CanReceiveOf}
-use Rattle.send_model.proofs.ExampleWords.{uuid, key, one_file, store_of, items, composing_words}
+use Rattle.send_model.specs.Headline.{AreComposed, CanReceiveOf, IsStoppedOf}
+use Rattle.send_model.proofs.ExampleWords.{uuid, key, one_file, store_of, items, reading_words, composing_words}
+use Rattle.send_model.proofs.ReadingExamples.{merged_stream}
 use Rattle.send_model.proofs.Sorts.{same_inside}
 use Rattle.send_model.proofs.SoundChanges.{root_alone_is_sound}
 use Rattle.send_model.proofs.SoundRenames.{edit_keeps_sound}
@@ -95,3 +97,16 @@ full_store_can : (s : Subvolume ℕ)
     → CanReceiveOf [] (items (Subvol (uuid 0x22) 2 (codes "b") ∷ End ∷ [])) (record { name = codes "b"; key = key 0x22 2; parent = None }) (store_of s)
 unfolding composing_words
 full_store_can s = record { lawful = (refl, refl, tt); same = tt; no_name = refl; no_uuid = refl }
+
+-- Nor does it need to lack the parts but the last: of what is named, only what stands outside has
+-- to be the same.
+earlier_part_can : (s : Subvolume ℕ)
+    → CanReceiveOf [] (items (Subvol (uuid 0x11) 1 (codes "a") ∷ End ∷ Snapshot (uuid 0x22) 2 (codes "b") (uuid 0x11) 1 ∷ End ∷ []))
+    (record { name = codes "b"; key = key 0x22 2; parent = Some (key 0x11 1) }) (store_of s)
+unfolding composing_words
+earlier_part_can s = record { lawful = (refl, refl, tt); same = tt; no_name = refl; no_uuid = refl }
+
+-- What stands where compose stopped is no whole stream, not even the one that was to be written.
+whole_is_not_stopped : (base : Store ℕ) (reading : Reading) → IsStoppedOf base reading merged_stream → ⊥
+unfolding merged_stream reading_words
+whole_is_not_stopped base reading stopped = stopped.unfinished refl

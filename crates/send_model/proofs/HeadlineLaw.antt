@@ -1,5 +1,5 @@
--- The headline for all commands, as the laws have it: over items; and over what was read, and files, in terms of the stream that is
--- written.
+-- The headline for all commands, as the laws have it: over items; and over what was read, and
+-- files, in terms of the stream that is written.
 use Rattle.std.specs.Prelude.{◌≢◌, ℕ, List, [], ◌∷◌, ◌++◌, Option, None, Some}
 use Rattle.std.specs.List.{AllByRecursion}
 use Rattle.std.proofs.Common.{refl, sym, ap, subst, inl, inr}

@@ -1,5 +1,5 @@
--- The headline for files without clones: what compose writes for consecutive parts is accepted by every store that finds the
--- same outside subvolumes, and gives it the last part's subvolume.
+-- The headline for files without clones: what compose writes for consecutive parts is accepted by
+-- every store that finds the same outside subvolumes, and gives it the last part's subvolume.
 use Rattle.std.specs.Prelude.{◌≡◌, ◌≢◌, ◌⊎◌, ℕ, ◌+◌, Bool, true, false, cond, not, List, [], ◌∷◌, ◌++◌, length, Option, None, Some, Ok}
 use Rattle.std.specs.List.{AllByRecursion, filter, sum_by, count_by}
 use Rattle.std.proofs.Common.{refl, sym, ap, ap₂, subst, subst₂, ◌∙◌, inl, inr, arith, append-nil, append_assoc}

@@ -1,4 +1,5 @@
--- What holds of each cell: a subvolume whose cells all have a property is one over cells that carry it.
+-- What holds of each cell: a subvolume whose cells all have a property is one over cells that carry
+-- it.
 use Rattle.std.specs.Prelude.{◌≡◌, ℕ, Bool, List, [], ◌∷◌, map, Option, None, Some, Result, Ok, Err}
 use Rattle.std.specs.Option.{option_map}
 use Rattle.std.specs.List.{AllByRecursion}

@@ -1,5 +1,6 @@
--- A worked example of too much: a file that was made longer by 2^41 zero bytes, and a clone of all of it into the next part. Its cells are
--- more than can be computed, so they stay unopened, and all that is known of them is how many there are.
+-- A worked example of too much: a file that was made longer by 2^41 zero bytes, and a clone of all
+-- of it into the next part. Its cells are more than can be computed, so they stay unopened, and all
+-- that is known of them is how many there are.
 use Rattle.std.specs.Prelude.{◌≡◌, ℕ, zero, suc, ◌+◌, ◌-◌, ◌≤◌, ◌==◌, Bool, true, false, ◌&&◌, ◌||◌, List, [], ◌∷◌, ◌++◌, map, length, take, drop, replicate, Option, None, Some, Result, Ok, Err, nat_lt, nat_le, codes, if◌then◌else◌}
 use Rattle.std.specs.List.{sum_by}
 use Rattle.std.proofs.Common.{refl, ap, ◌∙◌, arith}
@@ -25,7 +26,7 @@ use Rattle.send_model.proofs.ExampleWords.{hexadecimal, uuid, key, directory, fi
 
 -- ---- over a store with nothing in it
 
-abbrev nothing : Store ℕ
+abbrev pub nothing : Store ℕ
 nothing = []
 
 -- No block is carried.
@@ -38,7 +39,7 @@ none_carried (c ∷ cells) = one c.place
     two place true = refl
     two place false = refl
 
-    one : (o : Option Place) → (elim o as (λ x. Option Place) [ None ↦ None | Some place ↦ if come_from place (c ∷ cells) && can_serve None place (length (c ∷ cells)) then Some place else None ]) ≡ None
+    one : (o : Option Place) → (elim o as (λ x. Option Place) [ None ↦ None | Some place ↦ if come_from place (c ∷ cells) && can_serve {C = ℕ} None place (length (c ∷ cells)) then Some place else None ]) ≡ None
     one None = refl
     one (Some place) = two place (come_from place (c ∷ cells))
 
@@ -49,11 +50,11 @@ bytes_in cells = map (λ c. c.byte) cells
 bytes_alone : (at : ℕ) (block : List Traced) → piece_of nothing at block ≡ Literal at (bytes_in block)
 bytes_alone at block = ap (λ (o : Option Place). elim o as (λ x. Piece) [ None ↦ Literal at (bytes_in block) | Some place ↦ Carried at place (length block) ]) (none_carried block)
 
-abbrev bytes_of_pieces : List Piece → ℕ
+abbrev pub bytes_of_pieces : List Piece → ℕ
 bytes_of_pieces pieces = sum_by literal_len pieces
 
 -- Pieces of bytes join to one of as many bytes.
-bytes_joined : (at : ℕ) (bytes : List ℕ) (pieces : List Piece) → bytes_of_pieces (join_piece (Literal at bytes) pieces) ≡ length bytes + bytes_of_pieces pieces
+pub bytes_joined : (at : ℕ) (bytes : List ℕ) (pieces : List Piece) → bytes_of_pieces (join_piece (Literal at bytes) pieces) ≡ length bytes + bytes_of_pieces pieces
 bytes_joined at bytes [] = sum_by-cons literal_len (Literal at bytes) []
 bytes_joined at bytes (Literal at' more ∷ pieces) =
     let both = sum_by-cons literal_len (Literal at (bytes ++ more)) pieces in
@@ -88,16 +89,17 @@ all_uncarried range =
 
 -- ---- the two files
 
--- What the example computes by. The words for cells that are made longer, put or cut into blocks are not among them.
-unfoldable hole_words : Unit {0}
+-- What the example computes by. The words for cells that are made longer, put or cut into blocks
+-- are not among them.
+unfoldable pub hole_words : Unit {0}
 unfolding reading_words is_too_long too_long too_long_from due_from edit make change_contents change_inode add_inode clone cloned cells_of root_alone spot walk walk_names path_names between_slashes is_name is_directory is_file step step_head step_edit edit_part begun completed with_contents find heads_of traced_store clone_range composed_edits composed_from
 hole_words = tt
 
-abbrev size : ℕ
+abbrev pub size : ℕ
 size = 2_199_023_255_552
 
 -- A line for the header and one for each frame.
-unfoldable hole_stream : List ℕ
+unfoldable pub hole_stream : List ℕ
 hole_stream =
     hexadecimal (codes "62747266732d73747265616d0001000000")
     ++ hexadecimal (codes "250000000100333343ee01001000111111111111111111111111111111110200080001000000000000000f00010061")
@@ -105,7 +107,7 @@ hole_stream =
     ++ hexadecimal (codes "1100000011002474e8670400080000000000000200000f00010068")
     ++ hexadecimal (codes "000000001500506cc99d")
 
-unfoldable clone_stream : List ℕ
+unfoldable pub clone_stream : List ℕ
 clone_stream =
     hexadecimal (codes "62747266732d73747265616d0001000000")
     ++ hexadecimal (codes "450000000200ca93bfed01001000222222222222222222222222222222220200080002000000000000000f000100621400100011111111111111111111111111111111150008000100000000000000")
@@ -113,11 +115,11 @@ clone_stream =
     ++ hexadecimal (codes "4e0000001000fbdaaaf50f0001006b12000800000000000000000014001000111111111111111111111111111111111500080001000000000000001600010068170008000000000000000000180008000000000000020000")
     ++ hexadecimal (codes "000000001500506cc99d")
 
-abbrev hole_files : List (List ℕ)
+abbrev pub hole_files : List (List ℕ)
 hole_files = hole_stream ∷ clone_stream ∷ []
 
 -- Their commands up to the clone, the clone, and END.
-abbrev before : List Item
+abbrev pub before : List Item
 before =
     record { file = 1; number = 1; offset = 17; version = 1; data_at = 0; command = Subvol (uuid 0x11) 1 (codes "a") }
     ∷ record { file = 1; number = 2; offset = 64; version = 1; data_at = 0; command = MkFile (codes "h") }
@@ -127,27 +129,27 @@ before =
     ∷ record { file = 2; number = 2; offset = 96; version = 1; data_at = 0; command = MkFile (codes "k") }
     ∷ []
 
-abbrev the_clone : Item
+abbrev pub the_clone : Item
 the_clone = record { file = 2; number = 3; offset = 111; version = 1; data_at = 0; command = Clone (codes "k") 0 (uuid 0x11) 1 (codes "h") 0 size }
 
-abbrev the_end : Item
+abbrev pub the_end : Item
 the_end = record { file = 2; number = 4; offset = 199; version = 1; data_at = 0; command = End }
 
-abbrev from_clone : List Item
+abbrev pub from_clone : List Item
 from_clone = the_clone ∷ the_end ∷ []
 
 -- They are read as these items, and none is too long.
-hole_read : input hole_files ≡ record { items = before ++ from_clone; end = Whole }
+pub hole_read : input hole_files ≡ record { items = before ++ from_clone; end = Whole }
 unfolding hole_stream clone_stream hole_words
 hole_read = refl
 
-none_long : too_long hole_files ≡ None
+pub none_long : too_long hole_files ≡ None
 unfolding hole_stream clone_stream hole_words
 none_long = refl
 
 -- ---- up to the clone
 
-abbrev parts : List (List ℕ)
+abbrev pub parts : List (List ℕ)
 parts = uuid 0x11 ∷ uuid 0x22 ∷ []
 
 -- The first part, whose one file has some cells; and the second, with an empty file beside it.
@@ -188,7 +190,7 @@ up_to_clone items = refl
 -- ---- the clone
 
 -- So many cells of so many, and the cells of the hole.
-taken_len : (n : ℕ) (cells : List Traced) → length cells ≡ n → length (take n cells) ≡ n
+pub taken_len : (n : ℕ) (cells : List Traced) → length cells ≡ n → length (take n cells) ≡ n
 taken_len n cells long = let first = length-take n cells in omega (arith, long, first)
 
 resized_len : (n : ℕ) → length (resized (fresh 0) n []) ≡ n

@@ -1,4 +1,5 @@
--- The verdict on files, command by command: those that were taken in order lead to the verdict on the rest.
+-- The verdict on files, command by command: those that were taken in order lead to the verdict on
+-- the rest.
 use Rattle.std.specs.Prelude.{◌≡◌, ℕ, Bool, true, false, List, [], ◌∷◌, ◌++◌, Option, None, Some}
 use Rattle.std.proofs.Common.{refl, sym, ap, ◌∙◌, append-nil}
 use Rattle.std.proofs.lemmas.Bool.{not-false}

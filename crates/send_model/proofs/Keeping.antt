@@ -1,5 +1,5 @@
--- What holds of each name and of each inode of a subvolume still holds after an edit or a clone, where it holds of new ones and
--- each change of an inode keeps it.
+-- What holds of each name and of each inode of a subvolume still holds after an edit or a clone,
+-- where it holds of new ones and each change of an inode keeps it.
 use Rattle.std.specs.Prelude.{◌≡◌, ℕ, ◌+◌, ◌%◌, ◌==◌, Bool, true, false, cond, ◌&&◌, List, [], ◌∷◌, length, filter, Option, None, Some, Ok, nat_le, is_some, is_none, if◌then◌else◌}
 use Rattle.std.specs.declared.cmp.Ordering.{Ordering}
 use Rattle.std.specs.declared.cmp.Ordering.TheVariants.{Less, Equal, Greater}
@@ -80,7 +80,8 @@ module _ {C : Type 0} (N : List ℕ → Type 0) (X : Inode C → Type 0) where
     pub names : AllByRecursion (λ e. N e.0.1) s.names
     pub inodes : AllByRecursion (λ e. X e.1) s.inodes
 
-  -- What is kept by each new inode and each change that an edit makes, where a WRITE puts the given cells and UTIMES sets its times.
+  -- What is kept by each new inode and each change that an edit makes, where a WRITE puts the given
+  -- cells and UTIMES sets its times.
   pub record KeepsInodes (zero_cell : C) (put : List C) (c : Command) : Type 0 where
     pub made : (kind : NodeKind) (mode rdev : ℕ) (target : List ℕ) → X (new_inode kind mode rdev target)
     pub xattr_set : (name value : List ℕ) (inode : Inode C) → X inode → X (record inode { xattrs = with_value bytes_cmp name value inode.xattrs })

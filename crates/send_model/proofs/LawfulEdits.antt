@@ -1,4 +1,5 @@
--- Edits and clones keep a subvolume lawful; and, where a version can say the command, one that the format can say.
+-- Edits and clones keep a subvolume lawful; and, where a version can say the command, one that the
+-- format can say.
 use Rattle.std.specs.Prelude.{◌≡◌, ℕ, zero, suc, ◌+◌, ◌-◌, ◌<◌, ◌≤◌, ◌==◌, Bool, true, false, List, [], ◌∷◌, ◌++◌, map, length, take, drop, replicate, Option, None, Some, Ok, Err, is_some, if◌then◌else◌}
 use Rattle.std.specs.List.{AllByRecursion, list_all}
 use Rattle.std.specs.Ordering.{nat_cmp}
@@ -221,7 +222,7 @@ new_bytes version (Rename path path_to) s = let v = s.values in v.1.0.1
 new_bytes version c s = tt
 
 -- What is known of each inode, of the one of a number.
-cells_known : (s : Subvolume ℕ) (ino : ℕ) → IsSayable s → IsBytes (cells_of s ino)
+pub cells_known : (s : Subvolume ℕ) (ino : ℕ) → IsSayable s → IsBytes (cells_of s ino)
 unfolding cells_of
 cells_known s ino h = one (inode_at s ino) refl
   where

@@ -1,4 +1,5 @@
--- Whatever is received into a lawful store leaves a lawful one; and such a store is a base for the headline.
+-- Whatever is received into a lawful store leaves a lawful one; and such a store is a base for the
+-- headline.
 use Rattle.std.specs.Prelude.{◌≡◌, ℕ, Bool, true, false, ◌||◌, not, List, [], ◌∷◌, ◌++◌, length, Option, None, Some, Result, Ok, Err, if◌then◌else◌}
 use Rattle.std.specs.List.{AllByRecursion, list_any}
 use Rattle.std.specs.Str.{bytes_eq}

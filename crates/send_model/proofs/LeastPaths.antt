@@ -1,4 +1,5 @@
--- The first path of an inode is the least by bytes of all paths that lead to it, and there is one where any leads to it.
+-- The first path of an inode is the least by bytes of all paths that lead to it, and there is one
+-- where any leads to it.
 use Rattle.std.specs.Prelude.{◌≡◌, ◌≢◌, ◌⊎◌, ℕ, zero, suc, ◌+◌, ◌≤◌, ◌==◌, Bool, true, false, cond, not, ◌&&◌, List, [], ◌∷◌, ◌++◌, length, Option, None, Some, Ok, nat_le, is_some, if◌then◌else◌}
 use Rattle.std.specs.declared.cmp.Ordering.{Ordering}
 use Rattle.std.specs.declared.cmp.Ordering.TheVariants.{Less, Equal, Greater}

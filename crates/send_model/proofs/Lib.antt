@@ -5,7 +5,7 @@ pub mod ReadingExamples
 mod VersionExamples
 mod EditExamples
 mod DueExamples
-mod HoleExample
+pub mod HoleExample
 mod CommandExamples
 mod GuardExamples
 mod LineExamples
@@ -36,13 +36,14 @@ pub mod CellSteps
 pub mod CellClones
 pub mod Held
 pub mod Tracing
-mod Counting
-mod CountLaws
-mod PieceRuns
+pub mod Counting
+pub mod CountLaws
+pub mod CountAny
+pub mod PieceRuns
 pub mod Redirected
 pub mod SpelledPieces
 pub mod Rewriting
-mod Carrying
+pub mod Carrying
 pub mod FirstPaths
 pub mod LeastPaths
 pub mod LawfulPaths
@@ -63,22 +64,24 @@ pub mod SoundEdits
 pub mod SoundRenames
 pub mod Keeping
 pub mod Fronts
-mod TracedBase
-mod Naming
-mod Elsewhere
+pub mod TracedBase
+pub mod Naming
+pub mod Elsewhere
 pub mod MergingClones
-mod ComposingClones
-mod ComposedClones
-mod SpelledRuns
+pub mod MergingAny
+pub mod TracedCells
+pub mod ComposingAny
+pub mod ComposedClones
+pub mod SpelledRuns
 pub mod ReadCommands
-mod HeadlineClones
+pub mod HeadlineClones
 pub mod HeadlineLaw
 pub mod LawfulEdits
 pub mod LawfulStores
 mod BaseReceives
 pub mod UncarriedSums
-mod FirstMuch
 pub mod Dues
+pub mod DuesAny
 mod HeadlineExample
 pub mod Thinning
 pub mod ThinnedRuns
@@ -86,11 +89,11 @@ pub mod ThinnedTraces
 pub mod ThinnedLaws
 mod ThinnedExamples
 pub mod SourceLaws
-pub mod Renaming
-pub mod RenamedFiles
-mod RenamedAudits
-pub mod RenamedByFile
-mod RenamedExamples
+pub mod Overriding
+pub mod OverriddenFiles
+mod OverriddenAudits
+pub mod OverriddenByFile
+mod OverrideExamples
 mod NamedFiles
 pub mod Exporting
 mod ReceivableExamples
@@ -110,3 +113,8 @@ pub mod Moments
 pub mod ExportedItems
 pub mod ExportedStreams
 mod SeparatedExamples
+pub mod OutputMeanings
+pub mod NamedStreams
+pub mod ComposedAgain
+pub mod ExportedReadings
+mod StoreExamples

@@ -1,5 +1,6 @@
--- Worked examples of printed lines, and of a chain from a number: its parts, and what a trial of it prints. The lines and the trial
--- are those of another program; the numbers that are drawn were computed by hand.
+-- Worked examples of printed lines, and of a chain from a number: its parts, and what a trial of it
+-- prints. The lines and the trial are those of another program; the numbers that are drawn were
+-- computed by hand.
 use Rattle.std.specs.Prelude.{◌≡◌, ℕ, List, [], ◌∷◌, ◌++◌, replicate, codes, refl, map, take, drop}
 use Rattle.std.specs.Fmt.{digits}
 use Rattle.send_model.specs.Command.{Command, Snapshot, MkNod, SetXattr, Rename, Write, Clone, Chmod, Utimes, End, Fallocate, FileAttr, row, Chown, Symlink}
@@ -35,7 +36,8 @@ flagged : line_of 5 9 (FileAttr (codes "x") 16) ≡ codes "5 9 FILEATTR path=x f
 unfolding line_words
 flagged = refl
 
--- A rename's two paths, and an owner's two numbers, stand in this order, and a symbolic link's target behind its path.
+-- A rename's two paths, and an owner's two numbers, stand in this order, and a symbolic link's
+-- target behind its path.
 renamed : line_of 2 64 (Rename (codes "x") (codes "y")) ≡ codes "2 64 RENAME path=x to=y" ++ 10 ∷ []
 unfolding line_words
 renamed = refl
@@ -58,12 +60,14 @@ uuid_printed : uuid_text (0 ∷ 1 ∷ 2 ∷ 3 ∷ 4 ∷ 5 ∷ 6 ∷ 7 ∷ 8 ∷ 
 unfolding line_words
 uuid_printed = refl
 
--- The first and the last byte that is printed as it is are 0x21 and 0x7e; a blank and 0x7f are escaped.
+-- The first and the last byte that is printed as it is are 0x21 and 0x7e; a blank and 0x7f are
+-- escaped.
 bounds_of_plain : escaped (0x20 ∷ 0x21 ∷ 0x5c ∷ 0x7e ∷ 0x7f ∷ []) ≡ 0x5c ∷ codes "x20!" ++ 0x5c ∷ codes "x5c~" ++ 0x5c ∷ codes "x7f"
 unfolding line_words
 bounds_of_plain = refl
 
--- A mode is octal, zero too; a path with a blank, a backslash and a byte that is no text is escaped.
+-- A mode is octal, zero too; a path with a blank, a backslash and a byte that is no text is
+-- escaped.
 in_octal : line_of 2 64 (Chmod 0o755 (codes "a b" ++ 0x5c ∷ 0xff ∷ [])) ≡ codes "2 64 CHMOD mode=755 path=a" ++ 0x5c ∷ codes "x20b" ++ 0x5c ∷ codes "x5c" ++ 0x5c ∷ codes "xff" ++ 10 ∷ []
 unfolding line_words
 in_octal = refl

@@ -88,7 +88,8 @@ within_is_unnamed number (bytes ∷ files) w =
 
 -- ---- what is read
 
--- What is read of a file and of those after it, by whether it is too long and by how its reading ends.
+-- What is read of a file and of those after it, by whether it is too long and by how its reading
+-- ends.
 abbrev pub limited_by : Bool → List Item → ℕ → List Item → Ending → Limited → Limited
 limited_by b cut number items ending rest = if b then record { items = cut; stop = AtLimit number } else then_limited items ending rest
 

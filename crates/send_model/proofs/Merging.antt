@@ -1,5 +1,5 @@
--- Edits of consecutive parts, taken one after the other in one part: a part that begins from what the part before it ended
--- with goes on where that one stopped. For all commands but CLONE at once.
+-- Edits of consecutive parts, taken one after the other in one part: a part that begins from what
+-- the part before it ended with goes on where that one stopped. For all commands but CLONE at once.
 use Rattle.std.specs.Prelude.{◌≡◌, ℕ, Bool, true, false, List, [], ◌∷◌, ◌++◌, Option, None, Some, Result, Ok, Err}
 use Rattle.std.specs.List.{AllByRecursion}
 use Rattle.std.proofs.Common.{refl, sym, subst, ◌∙◌}
@@ -40,7 +40,8 @@ abbrev pub last_key : Key → List Head → Key
 last_key key [] = key
 last_key key (head ∷ heads) = last_key head.key heads
 
--- The part of a key has come to a subvolume: it is still being received, or it is complete and found by its key.
+-- The part of a key has come to a subvolume: it is still being received, or it is complete and
+-- found by its key.
 abbrev pub Stands : {C : Type 0} → Store C → Option (Part C) → Key → Subvolume C → Type 0
 Stands store None key s = find store key ≡ Some s
 Stands store (Some part) key s = (part ≡ record { key = key; subvolume = s }) × (key_with key.uuid store ≡ Some key)
@@ -90,7 +91,8 @@ from_parent {C = C} store key parent s t p f e =
 
 -- ---- the induction
 
--- What the commands after a part, with these heads and edits, do to its subvolume, in one part over any store.
+-- What the commands after a part, with these heads and edits, do to its subvolume, in one part over
+-- any store.
 pub record Merged (heads : List Head) (edits : List Command) (key : Key) (s : Subvolume ℕ) (end : State ℕ) : Type 0 where
   pub last : Subvolume ℕ
   pub stands : Stands end.store end.part (last_key key heads) last

@@ -4,7 +4,7 @@ use Rattle.std.specs.List.{AllByRecursion}
 use Rattle.std.proofs.Common.{refl, ap, subst}
 use Rattle.std.proofs.lemmas.Bool.{ltb-true, lt-ltb}
 use Rattle.send_model.specs.Attribute.{IsBytes}
-use Rattle.send_model.specs.Renamed.{IsNewName, AreNewNames}
+use Rattle.send_model.specs.Overridden.{IsNewName, AreLawfulOverrides}
 use Rattle.send_model.specs.NamedWords.{GivenFile, is_name_word, new_name, onto_files, files_from, names_of, PlainFilesAreGiven, GivenNamesFit, ShortNamesAreGiven}
 use Rattle.send_model.proofs.ElementLaws.{all_drop}
 use Rattle.send_model.proofs.Sorts.{same_inside}
@@ -17,15 +17,15 @@ plain_files_are_given at (word ∷ words) plain =
 
 -- What files give names that fit, where the first of them has one that fits.
 abbrev Fits : Option (List GivenFile) → Type 0
-Fits o = (given : List GivenFile) → o ≡ Some given → AreNewNames (names_of given)
+Fits o = (given : List GivenFile) → o ≡ Some given → AreLawfulOverrides (names_of given)
 
 onto_fits : (file : GivenFile) (o : Option (List GivenFile)) → IfSome file.name IsNewName → Fits o → Fits (onto_files file o)
 onto_fits file None name more given e = cc
-onto_fits file (Some files) name more given e = subst (λ (fs : List GivenFile). AreNewNames (names_of fs)) (same_inside e) (name, more files refl)
+onto_fits file (Some files) name more given e = subst (λ (fs : List GivenFile). AreLawfulOverrides (names_of fs)) (same_inside e) (record { name = name; parents = tt }, more files refl)
 
 fit_from : (before : Option (List ℕ)) (at : ℕ) (words : List (List ℕ)) → IfSome before IsNewName → AllByRecursion IsBytes words → Fits (files_from before at words)
 unfolding files_from
-fit_from None at [] name bytes = λ given e. subst (λ (fs : List GivenFile). AreNewNames (names_of fs)) (same_inside e) tt
+fit_from None at [] name bytes = λ given e. subst (λ (fs : List GivenFile). AreLawfulOverrides (names_of fs)) (same_inside e) tt
 fit_from (Some new) at [] name bytes = λ given e. cc
 fit_from None at (word ∷ words) name bytes = one (is_name_word word) (λ n. fit_from (Some (drop 5 word)) (at + 1) words n bytes.1) (fit_from None (at + 1) words tt bytes.1)
   where

@@ -1,4 +1,5 @@
--- Laws of paths: their pieces are std's parts of a list that is cut at each slash, and what their names are in each case.
+-- Laws of paths: their pieces are std's parts of a list that is cut at each slash, and what their
+-- names are in each case.
 use Rattle.std.proofs.Common.{◌≡◌, ◌==◌, ℕ, ◌<◌, ◌≤◌, Bool, true, false, cond, ◌&&◌, nat_le, not, List, [], ◌∷◌, length, Some, None, inl, inr, refl, sym, ap, ◌∙◌, arith}
 use Rattle.std.proofs.lemmas.Bool.{cases_lt, cases_Bool, le-leb, lt-leb, leb-true, and_parts}
 use Rattle.std.specs.Str.{bytes_eq}

@@ -1,4 +1,5 @@
--- A stream without its end is never read as whole: what was written before a fault is taken for no finished stream.
+-- A stream without its end is never read as whole: what was written before a fault is taken for no
+-- finished stream.
 use Rattle.std.specs.Prelude.{◌≡◌, ◌≢◌, ℕ, zero, suc, ◌+◌, ◌-◌, ◌^◌, ◌<◌, ◌≤◌, Bool, true, false, List, [], ◌∷◌, ◌++◌, length, take, Err, nat_le, nat_lt, ◌⊎◌}
 use Rattle.std.specs.List.{AllByRecursion}
 use Rattle.std.specs.Int.{w16, w32, to_le_bytes}

@@ -1,5 +1,6 @@
--- Worked examples of provenance: which blocks of a range an outside subvolume carries, how they make runs, and how clones are
--- counted. What is expected was worked out by hand from the rules in words.
+-- Worked examples of provenance: which blocks of a range an outside subvolume carries, how they
+-- make runs, and how clones are counted. What is expected was worked out by hand from the rules in
+-- words.
 use Rattle.std.specs.Prelude.{◌≡◌, ℕ, List, [], ◌∷◌, ◌++◌, map, replicate, None, Some, codes, refl}
 use Rattle.send_model.specs.Command.{Subvol, Snapshot, MkFile, Write, Clone, Truncate, Fallocate, End}
 use Rattle.send_model.specs.Reading.{Item}
@@ -86,7 +87,8 @@ two_writes : piece_commands [] (codes "y") 4_096 (Literal 0 (replicate 49_153 0x
 unfolding composing_words
 two_writes = refl
 
--- Zero bytes that commands make come from nowhere outside: by a gap, by a size, and by a range that is zeroed.
+-- Zero bytes that commands make come from nowhere outside: by a gap, by a size, and by a range that
+-- is zeroed.
 abbrev zeros : List Item
 zeros = items (
     Snapshot (uuid 0x22) 2 (codes "q") (uuid 0x11) 1

@@ -95,7 +95,8 @@ input_writable files are = from_writable 1 files are
 
 -- ---- in one version
 
--- What holds of a command in its own version, and then in version 2 too, holds in the version of the composed stream.
+-- What holds of a command in its own version, and then in version 2 too, holds in the version of
+-- the composed stream.
 in_second : (P : ℕ → Command → Type 0) → ((v : ℕ) (c : Command) → P v c → P 2 c) → (items : List Item) → AllByRecursion (λ item. P item.version item.command) items → AllByRecursion (P 2) (commands_of items)
 in_second P later [] all = tt
 in_second P later (item ∷ items) all = (later item.version item.command all.0, in_second P later items all.1)

@@ -1,4 +1,5 @@
--- What is read was spelled: the bytes in front of a reading are one frame that spells its command, and what follows it.
+-- What is read was spelled: the bytes in front of a reading are one frame that spells its command,
+-- and what follows it.
 use Rattle.std.specs.Prelude.{◌≡◌, ℕ, zero, suc, ◌+◌, ◌-◌, ◌^◌, ◌<◌, ◌≤◌, Bool, true, false, ◌&&◌, not, ◌==◌, List, [], ◌∷◌, ◌++◌, length, take, drop, Option, None, Some, Result, Ok, Err, nat_le, nat_lt, if◌then◌else◌}
 use Rattle.std.specs.List.{AllByRecursion, list_all, find}
 use Rattle.std.specs.Option.{unwrap_or}

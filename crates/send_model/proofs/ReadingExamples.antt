@@ -1,5 +1,5 @@
--- Worked examples of reading: two small streams and the one stream that stands for both, byte by byte as an assembler
--- independent of this program makes them, and the commands that they hold.
+-- Worked examples of reading: two small streams and the one stream that stands for both, byte by
+-- byte as an assembler independent of this program makes them, and the commands that they hold.
 use Rattle.std.specs.Prelude.{◌≡◌, List, ℕ, [], ◌∷◌, ◌++◌, codes, refl}
 use Rattle.send_model.specs.Command.{Subvol, Snapshot, MkFile, Write, End}
 use Rattle.send_model.specs.Spelling.{canonical}
@@ -36,7 +36,8 @@ end_frame : canonical 1 End ≡ hexadecimal (codes "000000001500506cc99d")
 unfolding reading_words
 end_frame = refl
 
--- A full stream of one small file: its four commands, with the places of their frames and of the data.
+-- A full stream of one small file: its four commands, with the places of their frames and of the
+-- data.
 first_read : reads 1 first_stream ≡ record {
   items =
       record { file = 1; number = 1; offset = 17; version = 1; data_at = 0; command = Subvol (uuid 0x11) 1 (codes "a") }
@@ -61,8 +62,9 @@ second_read : reads 2 second_stream ≡ record {
 unfolding second_stream reading_words
 second_read = refl
 
--- The one stream for both: the first one's commands under the second one's name and key, and then the second one's.
-merged_read : reads 1 merged_stream ≡ record {
+-- The one stream for both: the first one's commands under the second one's name and key, and then
+-- the second one's.
+pub merged_read : reads 1 merged_stream ≡ record {
   items =
       record { file = 1; number = 1; offset = 17; version = 1; data_at = 0; command = Subvol (uuid 0x22) 2 (codes "b") }
       ∷ record { file = 1; number = 2; offset = 64; version = 1; data_at = 0; command = MkFile (codes "x") }

@@ -1,4 +1,5 @@
--- Worked examples of the receivable spelling, as an assembler independent of this program makes the frames; and of a stream in it.
+-- Worked examples of the receivable spelling, as an assembler independent of this program makes the
+-- frames; and of a stream in it.
 use Rattle.std.specs.Prelude.{◌≡◌, ℕ, true, List, ◌++◌, codes, refl, [], ◌∷◌, map, replicate, take}
 use Rattle.send_model.specs.Command.{MkFile, MkNod, Symlink, Write, Utimes, MkDir, MkFifo, MkSock}
 use Rattle.send_model.specs.Reading.{reads}

@@ -1,5 +1,5 @@
--- One redirected clone: the commands of its pieces, one after the other in the part without traces, make what the clone makes
--- of the part with traces.
+-- One redirected clone: the commands of its pieces, one after the other in the part without traces,
+-- make what the clone makes of the part with traces.
 use Rattle.std.specs.Prelude.{◌≡◌, ◌⊎◌, ℕ, zero, suc, ◌+◌, ◌%◌, ◌≤◌, ◌==◌, Bool, true, false, not, ◌&&◌, ◌||◌, List, [], ◌∷◌, map, length, take, drop, Option, None, Some, Result, Ok, Err, nat_lt, nat_le, is_some, if◌then◌else◌}
 use Rattle.std.specs.List.{AllByRecursion, flat_map}
 use Rattle.std.specs.Str.{bytes_eq}
@@ -15,7 +15,7 @@ use Rattle.send_model.specs.Clone.{cells_of, is_aligned, overlap, Cloned, cloned
 use Rattle.send_model.specs.Store.{Key, Store, Part, State, find, clone_source, edit_part, edited, step, step_edit}
 use Rattle.send_model.specs.Outside.{IsAmong, is_among, FindsLawful}
 use Rattle.send_model.specs.Cells.{recelled, Holds}
-use Rattle.send_model.specs.Provenance.{Place, Traced, fresh, inode_with, is_own, is_redirected, clone_range, pieces_of}
+use Rattle.send_model.specs.Provenance.{Place, Traced, fresh, inode_with, is_own, is_redirected, clone_range, Piece, Carried, Literal, pieces_of}
 use Rattle.send_model.specs.Composed.{piece_commands, path_of, clone_commands}
 use Rattle.send_model.proofs.ElementLaws.{all_take, all_drop}
 use Rattle.send_model.proofs.Fuel.{required, not_refused, bound, ok_same}
@@ -26,7 +26,7 @@ use Rattle.send_model.proofs.CellMaps.{walk-cells, is_file-cells, overwritten-ce
 use Rattle.send_model.proofs.Held.{cells_hold, clone_holds}
 use Rattle.send_model.proofs.Tracing.{byte_of}
 use Rattle.send_model.proofs.Carrying.{InPlace, range_covered}
-use Rattle.send_model.proofs.PieceRuns.{put_bytes, IsPlace, Fits, fits_part, overwritten_put, pieces_run}
+use Rattle.send_model.proofs.PieceRuns.{put_bytes, IsPlace, Fits, fits_part, overwritten_put, MayClone, carried_run, pieces_run}
 use Rattle.send_model.proofs.LawfulPaths.{path_leads}
 
 -- ---- what a clone from a complete subvolume says
@@ -122,21 +122,29 @@ clone_ranged x part source own path offset clone_path from len after e =
     let a = bound (cloned part source own (clone_values path offset clone_path from len)) (λ c. Ok (change_inode c.ino (set_cells (overwritten x offset c.cells)) part)) after e in
     (a.0, a.1, ok_same a.2)
 
--- Without its traces, the part after a clone is the part with the bytes of the range put at their place.
-pub after_clone : (u : Store ℕ) (new : Key) (path : List ℕ) (part : Subvolume Traced) (ino offset : ℕ) (cells : List Traced) → 1 ≤ length cells
-    → recelled byte_of (change_inode ino (set_cells (overwritten (fresh 0) offset cells)) part) ≡ put_bytes u new path ino offset (map byte_of cells) (recelled byte_of part)
-after_clone u new path part ino offset cells some =
-    sym (change_inode-cells byte_of ino (set_cells (overwritten (fresh 0) offset cells)) (set_cells (overwritten 0 offset (map byte_of cells))) part
-    (λ inode. let at : List ℕ → Inode ℕ = λ c. inode_with inode c in ap at (sym (overwritten-cells byte_of (fresh 0) offset cells inode.cells))))
-    ∙ overwritten_put u new path ino offset (map byte_of cells) (recelled byte_of part) (let l = length-map cells byte_of in omega (arith, l, some))
+-- With the bytes of its cells alone, the part after a clone is the part with the bytes of the range
+-- put at their place.
+pub after_clone : {C : Type 0} (bytes : C → ℕ) (x : C) → bytes x ≡ 0 → (u : Store ℕ) (new : Key) (path : List ℕ) (part : Subvolume C) (ino offset : ℕ) (cells : List C) → 1 ≤ length cells
+    → recelled bytes (change_inode ino (set_cells (overwritten x offset cells)) part) ≡ put_bytes u new path ino offset (map bytes cells) (recelled bytes part)
+after_clone {C} bytes x is_zero u new path part ino offset cells some =
+    sym (change_inode-cells bytes ino (set_cells (overwritten x offset cells)) (set_cells (overwritten 0 offset (map bytes cells))) part
+    (λ inode. let at : List ℕ → Inode ℕ = λ c. inode_with inode c in
+    ap at (sym (overwritten-cells bytes x offset cells inode.cells ∙ ap (λ (z : ℕ). overwritten z offset (map bytes cells) (map bytes inode.cells)) is_zero))))
+    ∙ overwritten_put u new path ino offset (map bytes cells) (recelled bytes part) (let l = length-map cells bytes in omega (arith, l, some))
 
 -- ---- one redirected clone
+
+-- Nothing has to be known of places outside.
+all_free : (ps : List Piece) → AllByRecursion (MayClone (λ p. Unit {0})) ps
+all_free [] = tt
+all_free (Literal at bytes ∷ ps) = (tt, all_free ps)
+all_free (Carried at place len ∷ ps) = (tt, all_free ps)
 
 -- A part without traces in a store.
 abbrev pub holding : Store ℕ → Key → Subvolume ℕ → State ℕ
 holding u new s = record { store = u; part = Some (record { key = new; subvolume = s }) }
 
-below_top : (k n top : ℕ) → nat_le n top ≡ true → k ≤ n → nat_le k top ≡ true
+pub below_top : (k n top : ℕ) → nat_le n top ≡ true → k ≤ n → nat_le k top ≡ true
 below_top k n top e l = let t = leb-true n top e in le-leb k top (omega (arith, t, l))
 
 -- ---- any clone that is taken
@@ -156,7 +164,8 @@ clone_stepped {C} x put store part path offset clone_uuid clone_ctransid clone_p
     one (Ok after) is q = (after, is, ap (λ (r : Result (Subvolume C) Refusal). (edited store part r).state) is)
     one (Err refusal) is q = cc
 
--- What holds of the cells of the part, of the source and of the fresh zero byte holds after a CLONE, own or not.
+-- What holds of the cells of the part, of the source and of the fresh zero byte holds after a
+-- CLONE, own or not.
 pub clone_command_holds : {C : Type 0} (P : C → Type 0) (x : C) → P x → (put : List C) (store : Store C) (part : Part C)
     (path : List ℕ) (offset : ℕ) (clone_uuid : List ℕ) (clone_ctransid : ℕ) (clone_path : List ℕ) (clone_offset clone_len : ℕ) (after : Subvolume C)
     → Holds P part.subvolume → (bytes_eq clone_uuid part.key.uuid ≡ false → (s : Subvolume C) → find store (record { uuid = clone_uuid; ctransid = clone_ctransid }) ≡ Some s → Holds P s)
@@ -181,7 +190,8 @@ not_own current own uuid e n =
     one true q = cc
     one false q = refl
 
--- What a redirected CLONE that is taken does: its source and its range, the commands that stand for it, and the part after it.
+-- What a redirected CLONE that is taken does: its source and its range, the commands that stand for
+-- it, and the part after it.
 pub record Redirection (base : Store ℕ) (store : Store Traced) (part : Part Traced) (path : List ℕ) (offset : ℕ) (key : Key) (clone_path : List ℕ) (from len : ℕ) (commands : List Command) (after : Subvolume Traced) : Type 0 where
   pub other : bytes_eq key.uuid part.key.uuid ≡ false
   pub source : Subvolume Traced
@@ -245,9 +255,11 @@ module _ (base : Store ℕ) (keys : List Key) where
         let agree : (key : Key) (s : Subvolume ℕ) → IsAmong key keys → find base key ≡ Some s → (find u key ≡ Some s) × (bytes_eq key.uuid new.uuid ≡ false) = λ key s among f. let t = same key among in (t.0 ∙ f, t.1) in
         let leads : (p : Place) (s : Subvolume ℕ) → IsAmong p.key keys → find base p.key ≡ Some s → is_nameable s p.ino ≡ true → (walk s (path_of base p) ≡ Ok p.ino) × (is_some (path_names (path_of base p)) ≡ true) =
         λ p s among f n. path_leads base p s (lawful p.key s among f) f n in
-        let run = pieces_run u new path range.ino base keys offset facts.even facts.is_path agree leads 0 (pieces_of base range.cells) bytes plain covered place fits in
+        let one = carried_run u new path range.ino base keys offset facts.even facts.is_path agree leads in
+        let run = pieces_run u new path range.ino base keys offset facts.even facts.is_path (λ s. Unit {0}) (λ at bytes s p q. tt) (λ p. Unit {0}) (λ at p len s h m e q still f. one at p len s h e q f)
+        0 (pieces_of base range.cells) bytes plain covered (all_free (pieces_of base range.cells)) place tt fits in
         let start : offset + 0 ≡ offset = omega arith in
         let some = facts.some in
         let ended : put_bytes u new path range.ino (offset + 0) bytes plain ≡ recelled byte_of (change_inode range.ino (set_cells (overwritten (fresh 0) offset range.cells)) part) =
-        ap (λ (k : ℕ). put_bytes u new path range.ino k bytes plain) start ∙ sym (after_clone u new path part range.ino offset range.cells (let l = facts.length_is in omega (arith, some, l))) in
+        ap (λ (k : ℕ). put_bytes u new path range.ino k bytes plain) start ∙ sym (after_clone byte_of (fresh 0) refl u new path part range.ino offset range.cells (let l = facts.length_is in omega (arith, some, l))) in
         subst (λ (t : Subvolume ℕ). Takes (holding u new plain) cs (holding u new t)) ended run

@@ -1,4 +1,5 @@
--- Commands over two stores that find the same: they are taken in lockstep, with the same part, so separators are the same.
+-- Commands over two stores that find the same: they are taken in lockstep, with the same part, so
+-- separators are the same.
 use Rattle.std.specs.Prelude.{◌≡◌, ◌⊎◌, ℕ, Bool, true, false, ◌&&◌, ◌||◌, ◌==◌, List, [], ◌∷◌, ◌++◌, map, Option, None, Some, Result, Ok, Err, if◌then◌else◌}
 use Rattle.std.specs.List.{AllByRecursion}
 use Rattle.std.specs.Str.{bytes_eq}

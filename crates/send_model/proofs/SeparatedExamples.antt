@@ -1,5 +1,6 @@
--- Worked examples of separators: the smallest merged streams that the real `btrfs receive` gets wrong, what it makes of them, what is
--- exported of them, and what it makes of that. What is expected was written down by hand from cmds/receive.c of btrfs-progs.
+-- Worked examples of separators: the smallest merged streams that the real `btrfs receive` gets
+-- wrong, what it makes of them, what is exported of them, and what it makes of that. What is
+-- expected was written down by hand from cmds/receive.c of btrfs-progs.
 use Rattle.std.specs.Prelude.{◌≡◌, ℕ, true, nat_le, List, [], ◌∷◌, ◌++◌, length, None, Some, codes, refl}
 use Rattle.std.specs.List.{list_all}
 use Rattle.std.specs.Fmt.{digits}

@@ -1,4 +1,5 @@
--- Separators leave the state as it is; neutral commands in between change nothing; and the real receiver, where nothing goes astray.
+-- Separators leave the state as it is; neutral commands in between change nothing; and the real
+-- receiver, where nothing goes astray.
 use Rattle.std.specs.Prelude.{◌≡◌, ◌≢◌, ℕ, ◌≤◌, ◌==◌, Bool, true, false, cond, List, [], ◌∷◌, ◌++◌, Option, None, Some, Result, Ok, Err, is_some, nat_le}
 use Rattle.std.specs.declared.cmp.Ordering.{Ordering}
 use Rattle.std.specs.Ordering.{nat_cmp}

@@ -1,4 +1,5 @@
--- The four sorts of command: a head, END, a CLONE, and a plain edit, which looks at nothing but its part's subvolume.
+-- The four sorts of command: a head, END, a CLONE, and a plain edit, which looks at nothing but its
+-- part's subvolume.
 use Rattle.std.specs.Prelude.{◌≡◌, Bool, true, false, List, [], None, Some}
 use Rattle.std.proofs.Common.{refl, ap, unwrap_or}
 use Rattle.std.proofs.lemmas.Bool.{false≢true}

@@ -103,8 +103,8 @@ module _ {C : Type 0} where
 
   -- ---- a name that moves
 
-  -- What stands at a place where there is nothing takes the name there in place of its own. If it is a directory, some
-  -- names lead to the directory of the new place that pass it by.
+  -- What stands at a place where there is nothing takes the name there in place of its own. If it
+  -- is a directory, some names lead to the directory of the new place that pass it by.
   pub moved_is_sound : (s : Subvolume C) (from to : Spot) (x : ℕ) → IsSound s → at_spot s from ≡ Some x → at_spot s to ≡ None
       → IsTrue (is_directory s to.directory)
       → (IsTrue (is_directory s x) → (way : List (List ℕ)) × Leads (Around (Step s) x) way root to.directory)

@@ -1,5 +1,5 @@
--- What changes at one inode and its names keeps a subvolume sound, where that inode has what soundness asks of it; and so
--- does a name more.
+-- What changes at one inode and its names keeps a subvolume sound, where that inode has what
+-- soundness asks of it; and so does a name more.
 use Rattle.std.specs.Prelude.{◌≡◌, ℕ, ◌+◌, ◌<◌, ◌≤◌, Bool, true, cond, List, [], ◌∷◌, ◌++◌, length, Option, None, Some, Ok, IsTrue, is_some, ◌==◌, ◌⊎◌}
 use Rattle.std.specs.Ordering.{nat_cmp}
 use Rattle.std.specs.List.{filter}
@@ -22,7 +22,8 @@ pub same_place : (directory : ℕ) (name : List ℕ) (place : Spot) → ((direct
 same_place directory name place = cases_key named_cmp named_cmp_total named_cmp_exact (directory, name) (key place)
 
 module _ {C : Type 0} where
-  -- What changes at one inode and its names, and what it has afterwards. All that is said of the other inodes stays.
+  -- What changes at one inode and its names, and what it has afterwards. All that is said of the
+  -- other inodes stays.
   pub record Touches (s t : Subvolume C) (x : ℕ) : Type 0 where
     pub inodes_in_order : IsMap nat_cmp t.inodes
     pub names_in_order : IsMap named_cmp t.names

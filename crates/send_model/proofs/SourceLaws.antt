@@ -1,5 +1,5 @@
--- What words say of files of bytes is what they say of what was read of them; that this is so without names; and what compose says over
--- a base with fewer contents.
+-- What words say of files of bytes is what they say of what was read of them; that this is so
+-- without names; and what compose says over a base with fewer contents.
 use Rattle.std.specs.Prelude.{◌≡◌, ◌↔◌, ℕ, List, [], ◌∷◌}
 use Rattle.std.proofs.Common.{refl, sym, ap, ap₂, subst, ◌∙◌}
 use Rattle.send_model.specs.Reading.{Item}
@@ -7,11 +7,13 @@ use Rattle.send_model.specs.Store.{Store}
 use Rattle.send_model.specs.Due.{Due, DoneWhole, RefusedAt, TooLong, TooMuch, audit_due, accepted_line}
 use Rattle.send_model.specs.Words.{Request, Compose, Audit, Dump, Export, Gen, Trial, due, whole_of, EndSays, StandsBefore, StandsRefused, StandsCut}
 use Rattle.send_model.specs.Exported.{exported}
+use Rattle.send_model.specs.Command.{Command}
 use Rattle.send_model.specs.Thinned.{thinned}
 use Rattle.send_model.specs.Headline.{IsStoppedOf, whole_output_of}
-use Rattle.send_model.specs.Renamed.{renamed_items}
-use Rattle.send_model.specs.Sources.{Sources, sources, due_of, whole_from, StandsBeforeOf, StandsRefusedOf, StandsCutOf, EndSaysOf, SaysOfFiles, NoNamesChangeNothing, ThinnedEnds}
+use Rattle.send_model.specs.Overridden.{overridden_items}
+use Rattle.send_model.specs.Sources.{Sources, sources, due_of, whole_from, StandsBeforeOf, StandsRefusedOf, StandsCutOf, EndSaysOf, SaysOfFiles, NoOverridesChangeNothing, ThinnedEnds}
 use Rattle.send_model.proofs.ThinnedLaws.{looks_outside}
+use Rattle.send_model.proofs.Overriding.{with_none}
 
 due_same : (request : Request) (base : Store ℕ) (files : List (List ℕ)) → due_of request base (sources files) ≡ due request base files
 unfolding due audit_due
@@ -74,14 +76,14 @@ says_of_files request base files = record {
   cut = λ written. cut_same request base files written;
 }
 
--- ---- without names
+-- ---- without overrides
 
-same_items : (items : List Item) → renamed_items [] items ≡ items
+same_items : (items : List Item) → overridden_items [] items ≡ items
 same_items [] = refl
-same_items (item ∷ items) = ap (λ (r : List Item). item ∷ r) (same_items items)
+same_items (item ∷ items) = ap₂ (λ (x : Item) (r : List Item). x ∷ r) (ap (λ (c : Command). record item { command = c }) (with_none item.command)) (same_items items)
 
-pub no_names_change_nothing : NoNamesChangeNothing
-no_names_change_nothing read =
+pub no_overrides_change_nothing : NoOverridesChangeNothing
+no_overrides_change_nothing read =
     let at : List Item → List Item → Sources = λ all some. record {
       reading = record { items = all; end = read.reading.end };
       first_long = read.first_long;

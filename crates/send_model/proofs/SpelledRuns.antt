@@ -1,5 +1,5 @@
--- What is composed from commands that can be spelled can be spelled: what stands for redirected clones too, where what the base
--- finds under the outside keys can be said.
+-- What is composed from commands that can be spelled can be spelled: what stands for redirected
+-- clones too, where what the base finds under the outside keys can be said.
 use Rattle.std.specs.Prelude.{◌≡◌, ℕ, ◌+◌, ◌<◌, Bool, true, false, not, cond, List, [], ◌∷◌, ◌++◌, map, Option, None, Some, Result, Ok, if◌then◌else◌}
 use Rattle.std.specs.List.{AllByRecursion, filter, flat_map}
 use Rattle.std.specs.Option.{option_map}
@@ -204,7 +204,7 @@ module _ (version : ℕ) (is : IsVersion version) (base : Store ℕ) (keys : Lis
             else Clone path offset uuid ctransid clone_path from len ∷ [])) (sym y) ((s, refl, refl), tt))
 
     advances_clone : (c : Command) → is_clone c ≡ true → Advances c
-    advances_clone (Clone path offset uuid ctransid clone_path from len) h store None current f p s l t = absurd (let e : Some NoSubvolume ≡ None = sym (clone_without base keys parts last store path offset uuid ctransid clone_path from len) ∙ t in cc)
+    advances_clone (Clone path offset uuid ctransid clone_path from len) h store None current f p s l t = absurd (let e : Some NoSubvolume ≡ None = sym (clone_without store path offset uuid ctransid clone_path from len) ∙ t in cc)
     advances_clone (Clone path offset uuid ctransid clone_path from len) h store (Some part) current f p s l t =
         let k = clone_stepped (fresh 0) [] store part path offset uuid ctransid clone_path from len t in
         let source : Key = record { uuid = uuid; ctransid = ctransid } in
@@ -258,21 +258,21 @@ ParentFits (Some k) = KeyFits k
 abbrev HeadFits : Head → Type 0
 HeadFits h = PathFits h.name × KeyFits h.key × ParentFits h.parent
 
-heads_fit : (version : ℕ) (cs : List Command) → AllByRecursion (IsSpellable version) cs → AllByRecursion HeadFits (heads_of cs)
+pub heads_fit : (version : ℕ) (cs : List Command) → AllByRecursion (IsSpellable version) cs → AllByRecursion HeadFits (heads_of cs)
 unfolding heads_of row
 heads_fit version [] w = tt
 heads_fit version (Subvol uuid ctransid path ∷ cs) w = let v = w.0.values in ((path_first version PATH path refl v.1.1.0, (v.0, v.1.0), tt), heads_fit version cs w.1)
 heads_fit version (Snapshot uuid ctransid path clone_uuid clone_ctransid ∷ cs) w = let v = w.0.values in ((path_first version PATH path refl v.1.1.0, (v.0, v.1.0), (v.1.1.1.0, v.1.1.1.1.0)), heads_fit version cs w.1)
 heads_fit version (c ∷ cs) w = heads_fit version cs w.1
 
-keys_fit : (version : ℕ) (cs : List Command) → AllByRecursion (IsSpellable version) cs → AllByRecursion KeyFits (all_keys_named cs)
+pub keys_fit : (version : ℕ) (cs : List Command) → AllByRecursion (IsSpellable version) cs → AllByRecursion KeyFits (all_keys_named cs)
 unfolding row
 keys_fit version [] w = tt
 keys_fit version (Snapshot uuid ctransid path clone_uuid clone_ctransid ∷ cs) w = let v = w.0.values in ((v.1.1.1.0, v.1.1.1.1.0), keys_fit version cs w.1)
 keys_fit version (Clone path offset uuid ctransid clone_path from len ∷ cs) w = let v = w.0.values in ((v.1.1.0, v.1.1.1.0), keys_fit version cs w.1)
 keys_fit version (c ∷ cs) w = keys_fit version cs w.1
 
-kept_fit : (P : Key → Type 0) (p : Key → Bool) (ks : List Key) → AllByRecursion P ks → AllByRecursion P (filter p ks)
+pub kept_fit : (P : Key → Type 0) (p : Key → Bool) (ks : List Key) → AllByRecursion P ks → AllByRecursion P (filter p ks)
 kept_fit P p [] a = tt
 kept_fit P p (k ∷ ks) a = one (p k) (kept_fit P p ks a.1)
   where
@@ -280,11 +280,11 @@ kept_fit P p (k ∷ ks) a = one (p k) (kept_fit P p ks a.1)
     one true more = (a.0, more)
     one false more = more
 
-first_fits : (hs : List Head) (h : Head) → AllByRecursion HeadFits hs → first_head hs ≡ Some h → HeadFits h
+pub first_fits : (hs : List Head) (h : Head) → AllByRecursion HeadFits hs → first_head hs ≡ Some h → HeadFits h
 first_fits [] h a e = cc
 first_fits (x ∷ hs) h a e = subst (λ (y : Head). HeadFits y) (same_inside e) a.0
 
-last_fits_of : (hs : List Head) (h : Head) → AllByRecursion HeadFits hs → last_head hs ≡ Some h → HeadFits h
+pub last_fits_of : (hs : List Head) (h : Head) → AllByRecursion HeadFits hs → last_head hs ≡ Some h → HeadFits h
 last_fits_of [] h a e = cc
 last_fits_of (x ∷ []) h a e = subst (λ (y : Head). HeadFits y) (same_inside e) a.0
 last_fits_of (x ∷ y ∷ hs) h a e = last_fits_of (y ∷ hs) h a.1 e
@@ -295,7 +295,7 @@ unfolding kind_of_number row
 head_known version is name key None = ⊎_elim (λ e. subst (λ (v : ℕ). IsKnown v SUBVOL) (sym e) refl) (λ e. subst (λ (v : ℕ). IsKnown v SUBVOL) (sym e) refl) is
 head_known version is name key (Some parent) = ⊎_elim (λ e. subst (λ (v : ℕ). IsKnown v SNAPSHOT) (sym e) refl) (λ e. subst (λ (v : ℕ). IsKnown v SNAPSHOT) (sym e) refl) is
 
-head_spelled : (version : ℕ) → IsVersion version → (name : List ℕ) (key : Key) (parent : Option Key) → PathFits name → KeyFits key → ParentFits parent → IsSpellable version (head_command name key parent)
+pub head_spelled : (version : ℕ) → IsVersion version → (name : List ℕ) (key : Key) (parent : Option Key) → PathFits name → KeyFits key → ParentFits parent → IsSpellable version (head_command name key parent)
 unfolding row
 head_spelled version is name key None n k p = spellable_first version (head_command name key None) (head_known version is name key None) (k.0, (k.1, (n, tt)))
 head_spelled version is name key (Some parent) n k p = spellable_first version (head_command name key (Some parent)) (head_known version is name key (Some parent)) (k.0, (k.1, (n, (p.0, (p.1, tt)))))
@@ -343,7 +343,7 @@ composed_spelled version is store items first last first_is last_is w accepted s
       all_both (IsSpellable version) es (End ∷ []) (all_spelled version es (edits_inside version is store items last last_is w accepted sayable)) ((end_writable version is).spellable, tt),
     )
 
-are_inner : (version : ℕ) (cs : List Command) → AllByRecursion (IsInside version) cs → AreInner version cs
+pub are_inner : (version : ℕ) (cs : List Command) → AllByRecursion (IsInside version) cs → AreInner version cs
 are_inner version [] i = tt
 are_inner version (c ∷ cs) i = ((record { spellable = i.0.0 }, i.0.1), are_inner version cs i.1)
 
@@ -371,11 +371,12 @@ named_append : (cs ds : List Command) → all_keys_named (cs ++ ds) ≡ all_keys
 named_append [] ds = refl
 named_append (c ∷ cs) ds = ap (λ (ks : List Key). keys_named c ++ ks) (named_append cs ds) ∙ sym (append_assoc (keys_named c) (all_keys_named cs) (all_keys_named ds))
 
-commands_append : (items more : List Item) → commands_of (items ++ more) ≡ commands_of items ++ commands_of more
+pub commands_append : (items more : List Item) → commands_of (items ++ more) ≡ commands_of items ++ commands_of more
 commands_append [] more = refl
 commands_append (item ∷ items) more = ap (λ (cs : List Command). item.command ∷ cs) (commands_append items more)
 
--- What stands for first items of others, as the part of the others' last head, can be written where all of them can.
+-- What stands for first items of others, as the part of the others' last head, can be written where
+-- all of them can.
 pub front_inner : (version : ℕ) → IsVersion version → (store : Store ℕ) (all items more : List Item) (end : State ℕ) (first last : Head) → all ≡ items ++ more → first_head (heads items) ≡ Some first → last_head (heads all) ≡ Some last
     → AllByRecursion (CanWrite version) (commands_of all) → Takes (start_of (base_of store all)) (commands_of items) end → FindsSayable (base_of store all) (keys_outside all)
     → AreInner version (head_command last.name last.key first.parent ∷ composed_from (base_of store all) (part_uuids all) last.key (start_of (traced_store (base_of store all))) None items)

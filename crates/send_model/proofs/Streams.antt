@@ -1,4 +1,5 @@
--- One stream that was spelled is read whole, with its commands; and no part of it that lacks its end is read as whole.
+-- One stream that was spelled is read whole, with its commands; and no part of it that lacks its
+-- end is read as whole.
 use Rattle.std.specs.Prelude.{◌≡◌, ℕ, zero, suc, ◌+◌, ◌-◌, ◌<◌, ◌≤◌, ◌==◌, ◌||◌, Bool, true, false, List, [], ◌∷◌, ◌++◌, length, take, drop, Ok, nat_le, if◌then◌else◌}
 use Rattle.std.specs.List.{AllByRecursion}
 use Rattle.std.proofs.Common.{refl, sym, ap, subst, ◌∙◌, arith, length-append, le-leb, zero-le, eqb-true, inl, inr, ⊎_elim}

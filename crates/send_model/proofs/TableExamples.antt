@@ -1,8 +1,9 @@
--- Worked examples of the tables: the numbers and names of refusals, the numbers, names and wanted attributes of commands, statuses and
--- notes, and the bounds of names, paths, frames and headers. Commands and attributes are those of send.h; the rest is this program's own.
+-- Worked examples of the tables: the numbers and names of refusals, the numbers, names and wanted
+-- attributes of commands, statuses and notes, and the bounds of names, paths, frames and headers.
+-- Commands and attributes are those of send.h; the rest is this program's own.
 use Rattle.std.specs.Prelude.{◌≡◌, ℕ, true, false, List, [], ◌∷◌, ◌++◌, Option, None, Some, Err, map, flat_map, replicate, codes, is_some, refl}
 use Rattle.std.specs.Fmt.{digits}
-use Rattle.send_model.specs.Refusal.{Refusal, refusal_number, refusal_name, BadMagic, BadVersion, Truncated, LongCommand, BadChecksum, UnknownCommand, BadAttribute, MissingAttribute, NoSubvolume, BadName, NameThere, UuidThere, NoParent, BadPath, NoEntry, NotDirectory, EntryThere, IsDirectory, NotEmpty, IntoItself, NotFile, BadXattr, NoXattr, BadDevice, BadTime, IsRoot, FileTooBig, NoSource, BadRange, Unaligned, Overlap, Encoded, Guarded, BadFallocate, NotConsecutive, NotBuilt, NoNumber}
+use Rattle.send_model.specs.Refusal.{Refusal, refusal_number, refusal_name, BadMagic, BadVersion, Truncated, LongCommand, BadChecksum, UnknownCommand, BadAttribute, MissingAttribute, NoSubvolume, BadName, NameThere, UuidThere, NoParent, BadPath, NoEntry, NotDirectory, EntryThere, IsDirectory, NotEmpty, IntoItself, NotFile, BadXattr, NoXattr, BadDevice, BadTime, IsRoot, FileTooBig, NoSource, BadRange, Unaligned, Overlap, Encoded, Guarded, BadFallocate, NotConsecutive, NotBuilt, BadText, NoNumber}
 use Rattle.send_model.specs.Path.{is_name, between_slashes, path_names}
 use Rattle.send_model.specs.Command.{Kind, row, SUBVOL, SNAPSHOT, MKFILE, MKDIR, MKNOD, MKFIFO, MKSOCK, SYMLINK, RENAME, LINK, UNLINK, RMDIR, SET_XATTR, REMOVE_XATTR, WRITE, CLONE, TRUNCATE, CHMOD, CHOWN, UTIMES, END, UPDATE_EXTENT, FALLOCATE, FILEATTR, Subvol, Snapshot, Utimes, Rename, Link, Chown}
 use Rattle.send_model.specs.Spelling.{stream_header, canonical_all, Attribute, attributes_of}
@@ -25,11 +26,11 @@ all_refusals =
     ∷ NoSubvolume ∷ BadName ∷ NameThere ∷ UuidThere ∷ NoParent ∷ BadPath ∷ NoEntry ∷ NotDirectory
     ∷ EntryThere ∷ IsDirectory ∷ NotEmpty ∷ IntoItself ∷ NotFile ∷ BadXattr ∷ NoXattr ∷ BadDevice
     ∷ BadTime ∷ IsRoot ∷ FileTooBig ∷ NoSource ∷ BadRange ∷ Unaligned ∷ Overlap ∷ Encoded
-    ∷ (Guarded 0 0) ∷ (BadFallocate 0) ∷ NotConsecutive ∷ (NotBuilt 0) ∷ NoNumber ∷ []
+    ∷ (Guarded 0 0) ∷ (BadFallocate 0) ∷ NotConsecutive ∷ (NotBuilt 0) ∷ BadText ∷ NoNumber ∷ []
 
 numbered : map refusal_number all_refusals ≡
     1 ∷ 2 ∷ 3 ∷ 4 ∷ 5 ∷ 6 ∷ 7 ∷ 8 ∷ 9 ∷ 10 ∷ 11 ∷ 12 ∷ 13 ∷ 14 ∷ 15 ∷ 16 ∷ 17 ∷ 18 ∷ 19 ∷ 20
-    ∷ 21 ∷ 22 ∷ 23 ∷ 24 ∷ 25 ∷ 26 ∷ 27 ∷ 28 ∷ 29 ∷ 30 ∷ 31 ∷ 32 ∷ 33 ∷ 34 ∷ 35 ∷ 36 ∷ 38 ∷ []
+    ∷ 21 ∷ 22 ∷ 23 ∷ 24 ∷ 25 ∷ 26 ∷ 27 ∷ 28 ∷ 29 ∷ 30 ∷ 31 ∷ 32 ∷ 33 ∷ 34 ∷ 35 ∷ 36 ∷ 37 ∷ 38 ∷ []
 unfolding refusal_number
 numbered = refl
 
@@ -41,7 +42,7 @@ called : map refusal_name all_refusals ≡
     ∷ codes "NotFile" ∷ codes "BadXattr" ∷ codes "NoXattr" ∷ codes "BadDevice" ∷ codes "BadTime"
     ∷ codes "IsRoot" ∷ codes "FileTooBig" ∷ codes "NoSource" ∷ codes "BadRange" ∷ codes "Unaligned"
     ∷ codes "Overlap" ∷ codes "Encoded" ∷ codes "Guarded" ∷ codes "BadFallocate" ∷ codes "NotConsecutive"
-    ∷ codes "NotBuilt" ∷ codes "NoNumber" ∷ []
+    ∷ codes "NotBuilt" ∷ codes "BadText" ∷ codes "NoNumber" ∷ []
 unfolding refusal_name
 called = refl
 
@@ -269,7 +270,8 @@ last_nanosecond : with_nanos 999_999_999 ≡ Faulty (verdict 1 2 64 Truncated)
 unfolding reading_words
 last_nanosecond = refl
 
--- A time has twelve bytes; and an attribute that is missing is told before one that is no lawful time.
+-- A time has twelve bytes; and an attribute that is missing is told before one that is no lawful
+-- time.
 short_time : command_of 1 20 (text MTIME [] ∷ []) ≡ Err (BadAttribute MTIME)
 unfolding reading_words
 short_time = refl

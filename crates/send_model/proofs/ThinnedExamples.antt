@@ -37,7 +37,8 @@ name_of_third : judge_of thin (record { items = items (snapshot (codes "r")); en
 unfolding composing_words judge_items judge_reading run_by
 name_of_third = refl
 
--- Without the contents of the second, which a clone names, the verdict is another: a test has to keep what clones name too.
+-- Without the contents of the second, which a clone names, the verdict is another: a test has to
+-- keep what clones name too.
 clone_not_kept : judge_of (thinned (is_key_of (key 0x11 1 ∷ [])) base) (record { items = items (snapshot (codes "s")); end = Whole }) ≡ Some (record { file = 1; command = 1; offset = 0; refusal = NoSource })
 unfolding composing_words judge_items judge_reading run_by
 clone_not_kept = refl

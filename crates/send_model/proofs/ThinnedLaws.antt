@@ -214,8 +214,8 @@ last_is_part (h ∷ []) last e =
     ap (λ (x : Head). bytes_eq x.key.uuid last.key.uuid || false) (same_inside e) ∙ ap (λ (b : Bool). b || false) (bytes_eq_same last.key.uuid)
 last_is_part (h ∷ more ∷ hs) last e = ap (λ (b : Bool). bytes_eq h.key.uuid last.key.uuid || b) (last_is_part (more ∷ hs) last e) ∙ or_true (bytes_eq h.key.uuid last.key.uuid)
 
--- What is promised over one base is promised over the other, where both have the same entries with the contents that a test keeps, which
--- keeps the named keys and the parts.
+-- What is promised over one base is promised over the other, where both have the same entries with
+-- the contents that a test keeps, which keeps the named keys and the parts.
 module _ (keep : Key → Bool) (base other : Store ℕ) (reading : Reading) (bare : thinned keep base ≡ thinned keep other) (kept : KeepsNamed keep reading.items)
     (parts : (k : Key) → is_among (part_uuids reading.items) k.uuid ≡ true → keep k ≡ true) where
   run_alike : thinned_run keep 0 byte_cells (receive_of base reading) ≡ thinned_run keep 0 byte_cells (receive_of other reading)

@@ -1,4 +1,5 @@
--- Where the cells of a store come from whose entries have their contents only where a test keeps them, and what is composed of them.
+-- Where the cells of a store come from whose entries have their contents only where a test keeps
+-- them, and what is composed of them.
 use Rattle.std.specs.Prelude.{◌≡◌, ℕ, zero, suc, ◌+◌, Bool, true, false, ◌&&◌, List, [], ◌∷◌, ◌++◌, map, drop, length, Option, None, Some, Result, Ok, Err, if◌then◌else◌}
 use Rattle.std.specs.List.{AllByRecursion, flat_map, sum_by, count_by}
 use Rattle.std.specs.Option.{option_map, unwrap_or}
@@ -37,7 +38,8 @@ module _ {C : Type 0} (P : C → Type 0) where
   abbrev pub HoldsAll : State C → Type 0
   HoldsAll state = (good : State ((c : C) × P c)) × (recelled_state (cell_of P) good ≡ state)
 
-  -- What holds of all cells, of the zero cell and of those that are put holds of all cells after a step, taken or not.
+  -- What holds of all cells, of the zero cell and of those that are put holds of all cells after a
+  -- step, taken or not.
   pub step_holds : (x : C) (put : List C) (state : State C) (c : Command) → P x → AllByRecursion P put → HoldsAll state → HoldsAll (step x put state c).state
   step_holds x put state c px pp (good, e) =
       let ys = goods P put pp in

@@ -189,7 +189,8 @@ module _ (keep : Key → Bool) where
         ∙ step_edit-thinned x put state c (λ part. plain_edit_part x put (thinned keep state.store) part c h ∙ sym (plain_edit_part x put state.store part c h))
         ∙ ap (thinned_step keep) (sym (plain_step_edit x put state c h))) c
 
-    -- Two states that are the same without what the test does not keep stay so, and the same is refused.
+    -- Two states that are the same without what the test does not keep stay so, and the same is
+    -- refused.
     pub steps_alike : (c : Command) → Keeps c → (x : C) (put : List C) (a b : State C) → thinned_state keep a ≡ thinned_state keep b
         → thinned_step keep (step x put a c) ≡ thinned_step keep (step x put b c)
     steps_alike c kept x put a b same =

@@ -1,4 +1,5 @@
--- The traced subvolumes of a base: each cell stands at its place, and without places they are what the base finds.
+-- The traced subvolumes of a base: each cell stands at its place, and without places they are what
+-- the base finds.
 use Rattle.std.specs.Prelude.{◌≡◌, ℕ, ◌+◌, List, [], ◌∷◌, map, drop, Option, None, Some}
 use Rattle.std.specs.Option.{option_map}
 use Rattle.std.specs.Ordering.{nat_cmp}

@@ -1,4 +1,5 @@
--- The traced cells of a base stand at their own places, and without their places they are its bytes.
+-- The traced cells of a base stand at their own places, and without their places they are its
+-- bytes.
 use Rattle.std.specs.Prelude.{◌≡◌, ℕ, ◌+◌, Bool, true, false, List, [], ◌∷◌, map, Option, None, Some, if◌then◌else◌}
 use Rattle.std.specs.Option.{option_map}
 use Rattle.std.specs.List.{AllByRecursion}

@@ -1,7 +1,7 @@
 -- The uncarried bytes of items one by one, and that a step over traces is the plain one.
 use Rattle.std.specs.Prelude.{◌≡◌, ℕ, ◌+◌, Bool, true, false, List, [], ◌∷◌, map, Option, if◌then◌else◌}
 use Rattle.std.specs.List.{sum_by}
-use Rattle.std.proofs.Common.{sym, ap, ◌∙◌, arith}
+use Rattle.std.proofs.Common.{refl, sym, ap, ◌∙◌, arith}
 use Rattle.std.proofs.lemmas.List.Sums.{sum_by-cons}
 use Rattle.send_model.specs.Reading.{Item}
 use Rattle.send_model.specs.Store.{Store, State, step}
@@ -37,3 +37,7 @@ uncarried_split base parts state current item items = one (is_redirected parts c
         let b = sum_by-cons literal_in x [] in
         omega (arith, a, b)
     one false = omega arith
+
+pub nothing_uncarried : (base : Store ℕ) (parts : List (List ℕ)) (state : State Traced) (current : Option (List ℕ)) → uncarried_in base (ranges_from parts state current []) ≡ 0
+unfolding ranges_from
+nothing_uncarried base parts state current = refl

@@ -1,5 +1,6 @@
--- Worked examples of version 2: its frames, as an assembler independent of this program makes them; its rules of reading, beside
--- those of version 1; and the stream that stands for one of version 1 and one of version 2.
+-- Worked examples of version 2: its frames, as an assembler independent of this program makes them;
+-- its rules of reading, beside those of version 1; and the stream that stands for one of version 1
+-- and one of version 2.
 use Rattle.std.specs.Prelude.{◌≡◌, ℕ, List, [], ◌∷◌, ◌++◌, Result, Ok, Err, codes, refl, map, Some}
 use Rattle.send_model.specs.Refusal.{Refusal, BadVersion, BadAttribute, MissingAttribute, UnknownCommand, Encoded, NoEntry}
 use Rattle.send_model.specs.Attribute.{SIZE, PATH, DATA}
@@ -32,7 +33,8 @@ flagged = refl
 abbrev command_at : ℕ → List ℕ → Result Command Refusal
 command_at version bytes = frame_at bytes >>= (λ frame. attributes_at version frame.body >>= (λ attributes. command_of version frame.number attributes))
 
--- The two bytes of a WRITE stand at place 29 of its frame, two after the place where their attribute begins.
+-- The two bytes of a WRITE stand at place 29 of its frame, two after the place where their
+-- attribute begins.
 written_read : front_of 1 2 3 79 (hexadecimal (codes "150000000f00e791de330f0001007812000800000000000000000013006869")) ≡ Ok (record { item = record { file = 1; number = 3; offset = 79; version = 2; data_at = 108; command = Write (codes "x") 0 (codes "hi") }; rest = [] })
 unfolding reading_words
 written_read = refl
@@ -54,7 +56,8 @@ attribute_first : command_at 1 (hexadecimal (codes "110000001800ce7fa5ff0f000100
 unfolding reading_words
 attribute_first = refl
 
--- 25 is refused in version 2 whatever it wants, and is no number of version 1; a bad attribute comes before that.
+-- 25 is refused in version 2 whatever it wants, and is no number of version 1; a bad attribute
+-- comes before that.
 encoded : command_at 2 (hexadecimal (codes "00000000190038433a4f")) ≡ Err Encoded
 unfolding reading_words
 encoded = refl
@@ -76,7 +79,8 @@ no_such_number : map (λ n. command_of 2 n []) (0 ∷ 25 ∷ 26 ∷ []) ≡ Err 
 unfolding reading_words
 no_such_number = refl
 
--- The commands of version 2 alone are in front as any other is, and so is a CLONE, in either version.
+-- The commands of version 2 alone are in front as any other is, and so is a CLONE, in either
+-- version.
 punched_in_front : front_of 1 2 3 79 (hexadecimal (codes "2500000017005aa40a4a0400080001000000000000000f000100781200080000000000000000001900040003000000"))
     ≡ Ok (record { item = record { file = 1; number = 3; offset = 79; version = 2; data_at = 0; command = Fallocate 1 (codes "x") 0 3 }; rest = [] })
 unfolding reading_words
@@ -124,7 +128,8 @@ zeroth_header : stream_version (hexadecimal (codes "62747266732d73747265616d0000
 unfolding reading_words
 zeroth_header = refl
 
--- DATA swallows the rest of a body in any command of version 2, what looks like an attribute too. In version 1 it has a length.
+-- DATA swallows the rest of a body in any command of version 2, what looks like an attribute too.
+-- In version 1 it has a length.
 swallowed : attributes_at 2 (hexadecimal (codes "0f0001007813000f00010079")) ≡ Ok (record { kind = PATH; bytes = codes "x" } ∷ record { kind = DATA; bytes = hexadecimal (codes "0f00010079") } ∷ [])
 unfolding reading_words
 swallowed = refl

@@ -1,4 +1,5 @@
--- A walk as its steps, each from a directory to what a name in it leads to, and what becomes of it where steps change.
+-- A walk as its steps, each from a directory to what a name in it leads to, and what becomes of it
+-- where steps change.
 use Rattle.std.specs.Prelude.{◌≡◌, ℕ, Bool, true, false, List, [], ◌∷◌, ◌++◌, Option, None, Some, Result, Ok, IsTrue, ◌==◌, ◌⊎◌}
 use Rattle.std.specs.List.{list_any}
 use Rattle.std.proofs.Common.{refl, sym, ap, subst, ◌∙◌, inl, inr}

@@ -1,5 +1,5 @@
--- Commands of lists that are joined; what is taken before the first head; and that no front part of a stream is read as whole
--- before its END.
+-- Commands of lists that are joined; what is taken before the first head; and that no front part of
+-- a stream is read as whole before its END.
 use Rattle.std.specs.Prelude.{◌≡◌, ℕ, zero, suc, ◌<◌, ◌≤◌, true, List, [], ◌∷◌, ◌++◌, length, take, Option, None, Some}
 use Rattle.std.specs.List.{AllByRecursion}
 use Rattle.std.proofs.Common.{refl, sym, ap, subst, ◌∙◌, arith, append_assoc, append-nil, length-append, lit≤}

@@ -1,7 +1,8 @@
--- How the program answers: the exit status and the line on standard error. They are this program's own.
+-- How the program answers: the exit status and the line on standard error. They are this program's
+-- own.
 use Rattle.std.specs.Prelude.{ℕ, ◌-◌, false, List, [], ◌∷◌, ◌++◌, length, replicate, codes}
 use Rattle.std.specs.Fmt.{decimal, digits}
-use Rattle.send_model.specs.Refusal.{Refusal, refusal_number, refusal_name, BadMagic, BadVersion, Truncated, LongCommand, BadChecksum, UnknownCommand, BadAttribute, MissingAttribute, NoSubvolume, BadName, NameThere, UuidThere, NoParent, BadPath, NoEntry, NotDirectory, EntryThere, IsDirectory, NotEmpty, IntoItself, NotFile, BadXattr, NoXattr, BadDevice, BadTime, IsRoot, FileTooBig, NoSource, BadRange, Unaligned, Overlap, Encoded, Guarded, BadFallocate, NotConsecutive, NotBuilt, NoNumber}
+use Rattle.send_model.specs.Refusal.{Refusal, refusal_number, refusal_name, BadMagic, BadVersion, Truncated, LongCommand, BadChecksum, UnknownCommand, BadAttribute, MissingAttribute, NoSubvolume, BadName, NameThere, UuidThere, NoParent, BadPath, NoEntry, NotDirectory, EntryThere, IsDirectory, NotEmpty, IntoItself, NotFile, BadXattr, NoXattr, BadDevice, BadTime, IsRoot, FileTooBig, NoSource, BadRange, Unaligned, Overlap, Encoded, Guarded, BadFallocate, NotConsecutive, NotBuilt, BadText, NoNumber}
 use Rattle.send_model.specs.Reading.{Verdict}
 
 -- How a run answers.
@@ -76,6 +77,7 @@ kept_values Unaligned = []
 kept_values Overlap = []
 kept_values Encoded = []
 kept_values NotConsecutive = []
+kept_values BadText = []
 kept_values NoNumber = []
 
 unfoldable pub verdict_text : Verdict → List ℕ

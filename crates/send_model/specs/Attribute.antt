@@ -1,5 +1,6 @@
--- The attributes of protocol versions 1 and 2, and the form that each one's bytes have.
--- Source: the attribute numbers BTRFS_SEND_A_.. in send.h of btrfs-progs, and the tlv_get_.. of send-stream.c for the forms.
+-- The attributes of protocol versions 1 and 2, and the form that each one's bytes have. Source: the
+-- attribute numbers BTRFS_SEND_A_.. in send.h of btrfs-progs, and the tlv_get_.. of send-stream.c
+-- for the forms.
 use Rattle.std.specs.Prelude.{ℕ, ◌^◌, ◌<◌, ◌≡◌, ◌==◌, ◌&&◌, if◌then◌else◌, Bool, false, List, [], ◌∷◌, ◌++◌, length}
 use Rattle.std.specs.List.{list_any, AllByRecursion}
 use Rattle.std.specs.Int.{w32, w64, to_le_bytes}
@@ -102,7 +103,8 @@ ENCRYPTION = 31
 abbrev pub last_attribute : ℕ → ℕ
 last_attribute version = if version == 1 then CLONE_LEN else ENCRYPTION
 
--- In version 2 DATA has no length: its bytes are the rest of the body, in whatever command it stands.
+-- In version 2 DATA has no length: its bytes are the rest of the body, in whatever command it
+-- stands.
 abbrev pub takes_rest : ℕ → ℕ → Bool
 takes_rest version kind = (version == 2) && (kind == DATA)
 
@@ -114,8 +116,9 @@ pub record Time : Type 0 where
 abbrev pub second : ℕ
 second = 1_000_000_000
 
--- What an attribute's bytes say: an identifier of 16 bytes, a number of 8, a short number of 4, a moment of 12 (seconds in 8,
--- nanoseconds in 4), or any bytes. A number that is no attribute's has no form.
+-- What an attribute's bytes say: an identifier of 16 bytes, a number of 8, a short number of 4, a
+-- moment of 12 (seconds in 8, nanoseconds in 4), or any bytes. A number that is no attribute's has
+-- no form.
 pub data Form : Type 0 where
   AnIdentifier : Form
   ANumber : Form

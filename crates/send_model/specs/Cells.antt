@@ -1,5 +1,5 @@
--- The same subvolumes, stores and steps over other cells: each cell is replaced by what a function makes of it.
--- This program's own, as all that speaks of where cells come from.
+-- The same subvolumes, stores and steps over other cells: each cell is replaced by what a function
+-- makes of it. This program's own, as all that speaks of where cells come from.
 use Rattle.std.specs.Prelude.{map, Result, Ok, Err, ◌≡◌, IfSome}
 use Rattle.std.specs.Option.{option_map}
 use Rattle.send_model.specs.Refusal.{Refusal}

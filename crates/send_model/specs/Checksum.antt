@@ -1,5 +1,6 @@
--- The checksum of a frame: CRC-32C with the reflected polynomial, taken bit by bit and with no inversion
--- at either end. Source: btrfs_crc32c in send-stream.c of btrfs-progs, and the Castagnoli polynomial of RFC 3720.
+-- The checksum of a frame: CRC-32C with the reflected polynomial, taken bit by bit and with no
+-- inversion at either end. Source: btrfs_crc32c in send-stream.c of btrfs-progs, and the Castagnoli
+-- polynomial of RFC 3720.
 use Rattle.std.specs.Prelude.{ℕ, zero, suc, ◌/◌, ◌%◌, ◌==◌, if◌then◌else◌, bit_xor, List, [], ◌∷◌}
 
 -- One bit: shift right by one and, if the bit shifted out was 1, exclusive-or with the polynomial.

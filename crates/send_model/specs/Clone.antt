@@ -1,5 +1,6 @@
--- What CLONE does: cells of a file of the part itself, or of a complete subvolume, take the place of cells of a file.
--- The rules are this project's profile of the FICLONERANGE call, ioctl_ficlonerange(2).
+-- What CLONE does: cells of a file of the part itself, or of a complete subvolume, take the place
+-- of cells of a file. The rules are this project's profile of the FICLONERANGE call,
+-- ioctl_ficlonerange(2).
 use Rattle.std.specs.Prelude.{ℕ, ◌+◌, ◌%◌, ◌==◌, Bool, ◌&&◌, ◌||◌, List, [], length, take, drop, Option, Some, None, Result, Ok, nat_lt, nat_le, is_some}
 use Rattle.send_model.specs.Refusal.{Refusal, BadPath, NoSource, NotFile, BadRange, Unaligned, FileTooBig, Overlap}
 use Rattle.send_model.specs.Chain.{◌>>=◌, ◌>>◌, require, refuse_if, found}
@@ -14,8 +15,9 @@ cells_of s ino = elim (inode_at s ino) [ None ↦ [] | Some inode ↦ inode.cell
 abbrev pub block_len : ℕ
 block_len = 4_096
 
--- The source range and the range that it goes to are whole blocks from the start of one on, but that they may be short where the
--- source range ends at its file's end. That it lies in its file is a test of its own.
+-- The source range and the range that it goes to are whole blocks from the start of one on, but
+-- that they may be short where the source range ends at its file's end. That it lies in its file is
+-- a test of its own.
 abbrev pub is_aligned : ℕ → ℕ → ℕ → ℕ → Bool
 is_aligned offset from len size =
     (offset % block_len == 0) && (from % block_len == 0) && ((len % block_len == 0) || (from + len == size))
@@ -29,8 +31,8 @@ pub record Cloned (C : Type 0) : Type 0 where
   pub ino : ℕ
   pub cells : List C
 
--- The values of a CLONE but its key: the path of the file that it changes and the place in it, the path of the file that it reads and the
--- place in that, and how many cells it copies.
+-- The values of a CLONE but its key: the path of the file that it changes and the place in it, the
+-- path of the file that it reads and the place in that, and how many cells it copies.
 pub record CloneValues : Type 0 where
   pub path : List ℕ
   pub offset : ℕ
@@ -41,8 +43,8 @@ pub record CloneValues : Type 0 where
 abbrev pub clone_values : (path : List ℕ) (offset : ℕ) (clone_path : List ℕ) (from len : ℕ) → CloneValues
 clone_values path offset clone_path from len = record { path = path; offset = offset; clone_path = clone_path; from = from; len = len }
 
--- Every refusal of a CLONE in its order, for the part, the subvolume of the source (nothing where there is none), whether
--- that is the part itself, and the command's values.
+-- Every refusal of a CLONE in its order, for the part, the subvolume of the source (nothing where
+-- there is none), whether that is the part itself, and the command's values.
 unfoldable pub cloned : {C : Type 0} → (part : Subvolume C) (source : Option (Subvolume C)) (is_own : Bool) (values : CloneValues)
     → Result (Cloned C) Refusal
 cloned part source is_own values = do

@@ -1,5 +1,6 @@
--- The commands of a stream and the one table of them: each command's number, name and wanted attributes. The last three came
--- with version 2. Source: enum btrfs_send_cmd in send.h of btrfs-progs, and process_.. in send-stream.c for the attributes.
+-- The commands of a stream and the one table of them: each command's number, name and wanted
+-- attributes. The last three came with version 2. Source: enum btrfs_send_cmd in send.h of
+-- btrfs-progs, and process_.. in send-stream.c for the attributes.
 use Rattle.std.specs.Prelude.{ℕ, ◌==◌, ◌&&◌, Bool, List, [], ◌∷◌, ◌++◌, take, drop, Option, codes, if◌then◌else◌}
 use Rattle.std.specs.List.{find}
 use Rattle.std.specs.Int.{w32, w64, from_le_bytes}
@@ -68,7 +69,8 @@ row UPDATE_EXTENT = record { number = 22; name = codes "UPDATE_EXTENT"; wanted =
 row FALLOCATE = record { number = 23; name = codes "FALLOCATE"; wanted = SIZE ∷ PATH ∷ FILE_OFFSET ∷ FALLOCATE_MODE ∷ [] }
 row FILEATTR = record { number = 24; name = codes "FILEATTR"; wanted = PATH ∷ FILE_FLAGS ∷ [] }
 
--- Version 2 has one command more, ENCODED_WRITE, which is never taken: it writes bytes that are still compressed.
+-- Version 2 has one command more, ENCODED_WRITE, which is never taken: it writes bytes that are
+-- still compressed.
 abbrev pub is_encoded : ℕ → ℕ → Bool
 is_encoded version number = (version == 2) && (number == 25)
 
@@ -88,8 +90,8 @@ kinds_of version = if version == 1 then first_kinds else (if version == 2 then a
 unfoldable pub kind_of_number : ℕ → ℕ → Option Kind
 kind_of_number version number = find (λ kind. (row kind).number == number) (kinds_of version)
 
--- A command with its values, in the order of its wanted attributes. A path, a name and data are bytes;
--- sizes and offsets count bytes; an identifier is its 16 bytes.
+-- A command with its values, in the order of its wanted attributes. A path, a name and data are
+-- bytes; sizes and offsets count bytes; an identifier is its 16 bytes.
 pub data Command : Type 0 where
   Subvol : (uuid : List ℕ) (ctransid : ℕ) (path : List ℕ) → Command
   Snapshot : (uuid : List ℕ) (ctransid : ℕ) (path : List ℕ) (clone_uuid : List ℕ) (clone_ctransid : ℕ) → Command

@@ -1,7 +1,8 @@
--- What each command but CLONE, the heads and END does to a subvolume: the first refusal in its order, or the subvolume
--- afterwards. It looks at nothing but the subvolume of the part that is being received. Cells are moved and never looked at.
--- Source: process_.. in cmds/receive.c of btrfs-progs and the manual pages of the system calls that it makes; fallocate(2) for the
--- modes of FALLOCATE, of which five are taken here.
+-- What each command but CLONE, the heads and END does to a subvolume: the first refusal in its
+-- order, or the subvolume afterwards. It looks at nothing but the subvolume of the part that is
+-- being received. Cells are moved and never looked at. Source: process_.. in cmds/receive.c of
+-- btrfs-progs and the manual pages of the system calls that it makes; fallocate(2) for the modes of
+-- FALLOCATE, of which five are taken here.
 use Rattle.std.specs.Prelude.{ℕ, zero, suc, ◌+◌, ◌-◌, ◌^◌, ◌%◌, ◌==◌, Bool, false, not, ◌&&◌, ◌||◌, List, [], ◌∷◌, ◌++◌, length, map, take, drop, replicate, Option, None, Some, Result, Ok, nat_le, if◌then◌else◌, bit_and, is_some, is_none}
 use Rattle.std.specs.List.{list_any}
 use Rattle.std.specs.Ordering.{nat_cmp}
@@ -119,7 +120,8 @@ rmdir path s = do
   require (is_empty_directory s ino) NotEmpty
   Ok (take_name place ino s)
 
--- The walk to the directory of a path passes an inode: the directory is that inode or lies below it.
+-- The walk to the directory of a path passes an inode: the directory is that inode or lies below
+-- it.
 unfoldable pub lies_below : {C : Type 0} → Subvolume C → ℕ → List ℕ → Bool
 lies_below s ino path = elim (path_names path) [ None ↦ false | Some names ↦ list_any (λ i. i == ino) (inodes_on_way s root (all_but_last names)) ]
 
@@ -127,7 +129,8 @@ lies_below s ino path = elim (path_names path) [ None ↦ false | Some names ↦
 unfoldable pub move_name : {C : Type 0} → Spot → Spot → ℕ → Subvolume C → Subvolume C
 move_name from to ino s = add_name to ino (remove_name from s)
 
--- What stands where the moved inode goes has to give way: another inode of a fitting kind, a directory only if empty.
+-- What stands where the moved inode goes has to give way: another inode of a fitting kind, a
+-- directory only if empty.
 abbrev pub can_replace : {C : Type 0} → Subvolume C → ℕ → ℕ → Result (Unit {0}) Refusal
 can_replace s moved there = do
   refuse_if (is_directory s moved && not (is_directory s there)) NotDirectory
@@ -187,8 +190,9 @@ change_contents path end change s = do
   require (nat_le end greatest_end) FileTooBig
   Ok (change_inode ino (set_cells change) s)
 
--- What FALLOCATE does, by its whole mode: 0 fills the file up to the end of the range, 1 changes nothing, 3 punches a hole within the
--- file, 16 zeroes the range and may lengthen the file, and 17 zeroes it within the file.
+-- What FALLOCATE does, by its whole mode: 0 fills the file up to the end of the range, 1 changes
+-- nothing, 3 punches a hole within the file, 16 zeroes the range and may lengthen the file, and 17
+-- zeroes it within the file.
 pub data Allocation : Type 0 where
   Lengthen : Allocation
   KeepSize : Allocation
@@ -209,7 +213,8 @@ allocation_of mode =
 abbrev pub zeroed : {C : Type 0} → C → ℕ → ℕ → List C → List C
 zeroed zero_cell offset size cells = take offset cells ++ map (λ c. zero_cell) (take size (drop offset cells)) ++ drop (offset + size) cells
 
--- Filled up to the end of the range, or as they are, or zero cells in it: as far as there are cells, or as a write of so many.
+-- Filled up to the end of the range, or as they are, or zero cells in it: as far as there are
+-- cells, or as a write of so many.
 abbrev pub allocated : {C : Type 0} → C → Allocation → ℕ → ℕ → List C → List C
 allocated zero_cell Lengthen offset size cells = filled zero_cell (offset + size) cells
 allocated zero_cell KeepSize offset size cells = cells
@@ -230,8 +235,9 @@ fallocate zero_cell path offset size mode s = do
   require (nat_le (offset + size) greatest_end) FileTooBig
   Ok (change_inode ino (set_cells (fallocated zero_cell allocation offset size)) s)
 
--- The edit of each command, where a WRITE puts the given cells. Heads, CLONE and END are no edits of one subvolume, and stand
--- here as the edit that changes nothing. UPDATE_EXTENT says where data is, and changes nothing.
+-- The edit of each command, where a WRITE puts the given cells. Heads, CLONE and END are no edits
+-- of one subvolume, and stand here as the edit that changes nothing. UPDATE_EXTENT says where data
+-- is, and changes nothing.
 unfoldable pub edit : {C : Type 0} → C → List C → Command → Subvolume C → Result (Subvolume C) Refusal
 edit zero_cell put (MkFile path) s = make (new_inode File 0o600 0 []) path s
 edit zero_cell put (MkDir path) s = make new_directory path s

@@ -1,5 +1,6 @@
--- What `export` writes of files over a store, for the real `btrfs receive`: all commands that are taken, in the receivable spelling,
--- each stream with its own version, and separators between them. This program's own.
+-- What `export` writes of files over a store, for the real `btrfs receive`: all commands that are
+-- taken, in the receivable spelling, each stream with its own version, and separators between them.
+-- This program's own.
 use Rattle.std.specs.Prelude.{◌≡◌, ◌≢◌, ◌<◌, ◌^◌, ℕ, true, List, [], ◌∷◌, ◌++◌, map, Option, None, Some}
 use Rattle.std.specs.List.{AllByRecursion}
 use Rattle.send_model.specs.Refusal.{Refusal}
@@ -18,7 +19,8 @@ use Rattle.send_model.specs.Opened.{Opened, written_path}
 use Rattle.send_model.specs.Separated.{separator, open_anew, other_path, separated, IsSmall, ReceiverTakes}
 use Rattle.send_model.specs.Receivable.{said, exported_from}
 
--- What is known between two commands: the state, the file that the receiver has open, and the path that it had open before.
+-- What is known between two commands: the state, the file that the receiver has open, and the path
+-- that it had open before.
 pub record Exporting (C : Type 0) : Type 0 where
   pub state : State C
   pub opened : Option Opened
@@ -45,7 +47,8 @@ abbrev pub then_separated : Option Refusal → List Item → List Item
 then_separated (Some refusal) rest = []
 then_separated None rest = rest
 
--- Items with separators, up to the first that is refused, where it is given what an item does to a state.
+-- Items with separators, up to the first that is refused, where it is given what an item does to a
+-- state.
 unfoldable pub separated_by : {C : Type 0} → (State C → Item → After (State C)) → Exporting C → List Item → List Item
 separated_by does now [] = []
 separated_by does now (item ∷ items) = let after = does now.state item in
@@ -63,8 +66,8 @@ separated_items store items = separated_by byte_step (exporting store) items
 abbrev pub exported_of : Store ℕ → List Item → List ℕ
 exported_of store items = exported_from true (separated_items store items)
 
--- All that is written of files: what stands before the first command that is refused, before a fault of reading, or before the limit
--- of a file that is too long.
+-- All that is written of files: what stands before the first command that is refused, before a
+-- fault of reading, or before the limit of a file that is too long.
 unfoldable pub exported : Store ℕ → List (List ℕ) → List ℕ
 exported store files = exported_of store (limited_from 1 files).items
 
@@ -72,11 +75,13 @@ exported store files = exported_of store (limited_from 1 files).items
 
 -- What export promises of what it wrote, where all commands of the files are taken.
 pub record IsExported (base : Store ℕ) (files : List (List ℕ)) (written : List ℕ) : Type 0 where
-  -- it is read to a whole end, as the commands of the files with separators, each stream in the version that it came in
+  -- it is read to a whole end, as the commands of the files with separators, each stream in the
+  -- version that it came in
   pub whole : (reads 1 written).end ≡ Whole
   pub same : map said (reads 1 written).items ≡ map said (separated_items base (input files).items)
   pub commands_are : commands_in written ≡ separated (start_of base) (commands_of (input files).items)
-  -- every store that finds the same subvolumes outside, and takes the files, takes it and comes to the same state
+  -- every store that finds the same subvolumes outside, and takes the files, takes it and comes to
+  -- the same state
   pub taken : (store : Store ℕ) → IsStore store → SameOn base store (outside files) → IsAccepted (receive store files)
       → receive store (written ∷ []) ≡ receive store files
   -- and so does the real receiver there, which writes on to the file that it has open
@@ -94,7 +99,8 @@ IsMoment time = (time.secs < 2 ^ 64) × (time.nanos < second)
 abbrev pub HasTimes : Subvolume ℕ → Type 0
 HasTimes s = AllByRecursion (λ e. IsMoment e.1.mtime × IsMoment e.1.atime) s.inodes
 
--- A store over which files can be exported: a lawful one, in which the times of each inode can be said.
+-- A store over which files can be exported: a lawful one, in which the times of each inode can be
+-- said.
 pub record CanExportOver (store : Store ℕ) : Type 0 where
   pub lawful : IsLawfulStore store
   pub times : (key : Key) (s : Subvolume ℕ) → find store key ≡ Some s → HasTimes s
@@ -109,7 +115,8 @@ abbrev pub ExportedIsSame : Type 0
 ExportedIsSame = (base : Store ℕ) (files : List (List ℕ)) → files ≢ [] → CanExportOver base → AllByRecursion IsBytes files
     → audit_due base [] files ≡ DoneWhole → AreSmallBy byte_step (start_of base) (input files).items → IsExported base files (exported base files)
 
--- Over no store files can be exported, and over whatever is received into a store over which they can.
+-- Over no store files can be exported, and over whatever is received into a store over which they
+-- can.
 abbrev pub ReceivedCanExport : Type 0
 ReceivedCanExport = (store : Store ℕ) (files : List (List ℕ)) → CanExportOver store → AllByRecursion IsBytes files
     → CanExportOver (completed (receive store files).state)

@@ -1,5 +1,5 @@
--- A chain of consecutive streams that a number gives, and what a trial of composing prints of it. They are this program's own; the
--- numbers are drawn as Knuth's MMIX draws them.
+-- A chain of consecutive streams that a number gives, and what a trial of composing prints of it.
+-- They are this program's own; the numbers are drawn as Knuth's MMIX draws them.
 use Rattle.std.specs.Prelude.{ℕ, zero, suc, ◌+◌, ◌-◌, ◌*◌, ◌/◌, ◌%◌, ◌^◌, List, [], ◌∷◌, ◌++◌, map, length, replicate, codes}
 use Rattle.std.specs.List.{flat_map}
 use Rattle.std.specs.Int.{w64, to_le_bytes}
@@ -50,9 +50,9 @@ first_part seed =
     Subvol (part_uuid seed 1) 1 (part_name 1) ∷ (map (λ file. MkFile (file_name file)) files
     ++ map (λ file. Write (file_name file) 0 (replicate 12_288 file)) files ++ End ∷ [])
 
--- A later part writes one block, clones one from the part before, and renames the file of the write there and back. Seven
--- numbers are drawn for it, after those of all parts before it: file, block and byte of the write, file and block of the source,
--- file and block that it goes to.
+-- A later part writes one block, clones one from the part before, and renames the file of the write
+-- there and back. Seven numbers are drawn for it, after those of all parts before it: file, block
+-- and byte of the write, file and block of the source, file and block that it goes to.
 unfoldable pub later_part : ℕ → ℕ → List Command
 later_part seed part =
     let before : ℕ = 7 * (part - 2) in
@@ -85,8 +85,8 @@ chain_items seed count =
 unfoldable pub trial_composed : ℕ → ℕ → List Command
 trial_composed seed count = composed_of [] (chain_items seed count)
 
--- The parts, the chain's commands and its bytes, the bytes of the composed stream and its clones, and the bytes of redirected
--- clones that it carries.
+-- The parts, the chain's commands and its bytes, the bytes of the composed stream and its clones,
+-- and the bytes of redirected clones that it carries.
 unfoldable pub trial_line : ℕ → ℕ → List ℕ
 trial_line seed count =
     codes "trial " ++ decimal count ++ 0x20 ∷ decimal (length (chain_items seed count)) ++ 0x20 ∷ decimal (length (chain_of seed count))

@@ -1,4 +1,5 @@
--- What guards mean for receiving: they add refusals and nothing else; and that an audit is receiving under them. This program's own.
+-- What guards mean for receiving: they add refusals and nothing else; and that an audit is
+-- receiving under them. This program's own.
 use Rattle.std.specs.Prelude.{◌≡◌, ◌≤◌, ℕ, false, List, [], ◌∷◌, ◌++◌, map, length, take, None}
 use Rattle.std.specs.List.{AllByRecursion}
 use Rattle.std.specs.Option.{option_map}
@@ -33,8 +34,9 @@ abbrev pub AllowedIsAccepted : Type 0
 AllowedIsAccepted = (store : Store ℕ) (guards : List Guard) (files : List (List ℕ)) → (receive_under store guards files).refused ≡ None
     → receive store files ≡ record { state = (receive_under store guards files).state.state; refused = None }
 
--- What a guard that began with nothing counted says of commands that it allowed, one after the other: so many bytes in WRITE
--- commands at most, so many commands at most, no MKNOD, or no end of a WRITE with data, a CLONE or a TRUNCATE above a place.
+-- What a guard that began with nothing counted says of commands that it allowed, one after the
+-- other: so many bytes in WRITE commands at most, so many commands at most, no MKNOD, or no end of
+-- a WRITE with data, a CLONE or a TRUNCATE above a place.
 abbrev pub IsWithin : GuardSpec → List Command → Type 0
 IsWithin (MostBytes most) commands = literal commands ≤ most
 IsWithin (MostCommands most) commands = length commands ≤ most
@@ -55,7 +57,8 @@ abbrev pub AuditIsReceiving : Type 0
 AuditIsReceiving = (store : Store ℕ) (guards : List Guard) (files : List (List ℕ)) → too_long files ≡ None
     → audit_due store guards files ≡ refused_due (receive_under store guards files).refused
 
--- Where one is too long, it is the first refusal of what stands before the limit of the first such file; and else it names that file.
+-- Where one is too long, it is the first refusal of what stands before the limit of the first such
+-- file; and else it names that file.
 abbrev pub AuditStopsAtLimit : Type 0
 AuditStopsAtLimit = (store : Store ℕ) (guards : List Guard) (files : List (List ℕ)) (n : ℕ) (first : IsFirstLong 1 n files)
     → let before = (input (first.before ++ take limit first.bytes ∷ [])).items in

@@ -1,5 +1,6 @@
--- Guards: limits that whoever receives streams sets on them. Each looks at every command that was read, heads and END among
--- them, before the command does anything. The first that refuses a command ends the run. They are this program's own.
+-- Guards: limits that whoever receives streams sets on them. Each looks at every command that was
+-- read, heads and END among them, before the command does anything. The first that refuses a
+-- command ends the run. They are this program's own.
 use Rattle.std.specs.Prelude.{ℕ, zero, suc, ◌+◌, ◌^◌, Bool, true, false, ◌&&◌, max, List, [], ◌∷◌, length, take, drop, Option, None, Some, codes, nat_lt, nat_le, if◌then◌else◌}
 use Rattle.std.specs.Option.{option_map}
 use Rattle.std.specs.Str.{bytes_eq, all_ascii_digits}
@@ -12,8 +13,9 @@ use Rattle.send_model.specs.Receive.{Ran, run_by, first_of, with_fault, byte_cel
 
 -- ---- what they are and what they look at
 
--- The four kinds: at most so many bytes in WRITE commands; at most so many commands; no MKNOD, whatever its mode; no WRITE of some
--- bytes, CLONE or TRUNCATE whose end is above a place. A FALLOCATE is not looked at, though it may lengthen a file.
+-- The four kinds: at most so many bytes in WRITE commands; at most so many commands; no MKNOD,
+-- whatever its mode; no WRITE of some bytes, CLONE or TRUNCATE whose end is above a place. A
+-- FALLOCATE is not looked at, though it may lengthen a file.
 pub data GuardSpec : Type 0 where
   MostBytes : (most : ℕ) → GuardSpec
   MostCommands : (most : ℕ) → GuardSpec
@@ -28,8 +30,8 @@ pub record Guard : Type 0 where
 abbrev pub new_guard : GuardSpec → Guard
 new_guard spec = record { spec = spec; used = 0 }
 
--- What a guard sees of a command: a WRITE at an offset of so many bytes, a CLONE that ends at a place, a TRUNCATE to a size,
--- an MKNOD, or another one.
+-- What a guard sees of a command: a WRITE at an offset of so many bytes, a CLONE that ends at a
+-- place, a TRUNCATE to a size, an MKNOD, or another one.
 pub data Seen : Type 0 where
   Writes : (offset len : ℕ) → Seen
   ClonesTo : (end : ℕ) → Seen
@@ -126,7 +128,8 @@ guard_after guard command = record { spec = guard.spec; used = used_after guard.
 
 -- ---- the guards in order
 
--- The place of the first guard that refuses a command, counted from the given number, and what it had counted.
+-- The place of the first guard that refuses a command, counted from the given number, and what it
+-- had counted.
 unfoldable pub refused_from : ℕ → List Guard → Command → Option Refusal
 refused_from place [] command = None
 refused_from place (guard ∷ guards) command = if guard_refuses guard command then Some (Guarded place guard.used) else refused_from (place + 1) guards command
@@ -135,8 +138,8 @@ refused_from place (guard ∷ guards) command = if guard_refuses guard command t
 abbrev pub guarded : List Guard → Command → Option Refusal
 guarded guards command = refused_from 0 guards command
 
--- The guards after they looked at a command: those before the first that refuses it have gone on, and it and those after it
--- are as before.
+-- The guards after they looked at a command: those before the first that refuses it have gone on,
+-- and it and those after it are as before.
 unfoldable pub looked : List Guard → Command → List Guard
 looked [] command = []
 looked (guard ∷ guards) command = if guard_refuses guard command then guard ∷ guards else guard_after guard command ∷ looked guards command
@@ -151,7 +154,8 @@ pub record Watched (S : Type 0) : Type 0 where
 abbrev pub watched : {S : Type 0} → List Guard → After S → After (Watched S)
 watched guards after = record { state = record { guards = guards; state = after.state }; refusal = after.refusal }
 
--- An item under guards: one that a guard refuses changes nothing of the state; else it does what it does.
+-- An item under guards: one that a guard refuses changes nothing of the state; else it does what it
+-- does.
 abbrev pub watched_step : {S : Type 0} → (S → Item → After S) → Watched S → Item → After (Watched S)
 watched_step does w item = elim (guarded w.guards item.command) [
   | Some refusal ↦ record { state = record { guards = looked w.guards item.command; state = w.state }; refusal = Some refusal }
@@ -174,7 +178,8 @@ receive_under store guards files = receive_watched 0 byte_cells store guards (in
 abbrev pub after_text : List ℕ → List ℕ → Option (List ℕ)
 after_text text word = if bytes_eq (take (length text) word) text then Some (drop (length text) word) else None
 
--- The number that one to twenty decimal digits say, where it has 64 bits. Zeros in front are lawful.
+-- The number that one to twenty decimal digits say, where it has 64 bits. Zeros in front are
+-- lawful.
 abbrev pub number_word : List ℕ → Option ℕ
 number_word word =
     if nat_le 1 (length word) && nat_le (length word) 20 && all_ascii_digits word && nat_lt (digits_value 10 word) (2 ^ 64)
@@ -184,7 +189,8 @@ number_word word =
 abbrev pub numbered_guard : List ℕ → (ℕ → GuardSpec) → List ℕ → Option GuardSpec
 numbered_guard text guard word = elim (after_text text word) [ None ↦ None | Some rest ↦ option_map guard (number_word rest) ]
 
--- The words `guard:bytes=N`, `guard:commands=N`, `guard:nodev` and `guard:end=N`; no other word is a guard's.
+-- The words `guard:bytes=N`, `guard:commands=N`, `guard:nodev` and `guard:end=N`; no other word is
+-- a guard's.
 unfoldable pub guard_of : List ℕ → Option GuardSpec
 guard_of word =
     first_of (if bytes_eq word (codes "guard:nodev") then Some NoDevices else None)

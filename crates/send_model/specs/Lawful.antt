@@ -26,8 +26,8 @@ pub record IsLawfulEntry (e : Entry (Subvolume ℕ)) : Type 0 where
   pub uuid : (length e.key.uuid ≡ 16) × IsBytes e.key.uuid
   pub contents : HasSayable e.contents
 
--- A lawful store: no name and no uuid stands twice, each is a lawful one, and each complete subvolume is lawful, of bytes, with no
--- file too big.
+-- A lawful store: no name and no uuid stands twice, each is a lawful one, and each complete
+-- subvolume is lawful, of bytes, with no file too big.
 pub record IsLawfulStore (store : Store ℕ) : Type 0 where
   pub distinct : IsStore store
   pub entries : AllByRecursion IsLawfulEntry store
@@ -54,12 +54,13 @@ abbrev pub FilesLeaveLawful : Type 0
 FilesLeaveLawful = (store : Store ℕ) (files : List (List ℕ)) → IsLawfulStore store → AllByRecursion IsBytes files
     → IsLawfulStore (completed (receive store files).state) × IsLawfulStore (receive store files).state.store
 
--- What a lawful store finds can be said, whatever entries are left out: it meets what the headline asks of a base.
+-- What a lawful store finds can be said, whatever entries are left out: it meets what the headline
+-- asks of a base.
 abbrev pub LawfulFindsSayable : Type 0
 LawfulFindsSayable = (store : Store ℕ) (files : List (List ℕ)) (keys : List Key) → IsLawfulStore store → FindsSayable (base store files) keys
 
--- Each complete subvolume of a lawful store can be said, and so each of what is left of it without some uuids: it meets what
--- composing over a base asks.
+-- Each complete subvolume of a lawful store can be said, and so each of what is left of it without
+-- some uuids: it meets what composing over a base asks.
 abbrev pub LawfulAllSayable : Type 0
 LawfulAllSayable = (store : Store ℕ) → IsLawfulStore store → AllSayable store × ((uuids : List (List ℕ)) → AllSayable (store_without uuids store))
 

@@ -30,7 +30,8 @@ pub record IsReadAs (version : ℕ) (bytes rest : List ℕ) (attributes : List A
   pub body : attributes_at version (body_of version attributes) ≡ Ok attributes
   pub command : command_of version (row (kind_of c)).number attributes ≡ Ok c
 
--- Whatever spells a command is read as that command, whatever follows it: every command of either version.
+-- Whatever spells a command is read as that command, whatever follows it: every command of either
+-- version.
 abbrev pub SpelledIsRead : Type 0
 SpelledIsRead = (version : ℕ) (bytes rest : List ℕ) (c : Command) (s : Spells version bytes c) → IsReadAs version bytes rest s.attributes c
 
@@ -69,7 +70,8 @@ DataIsThere = (file version number offset : ℕ) (bytes : List ℕ) (front : Fro
 abbrev pub FrameHasOneReading : Type 0
 FrameHasOneReading = (version : ℕ) (bytes : List ℕ) (c d : Command) → Spells version bytes c → Spells version bytes d → c ≡ d
 
--- The canonical spelling of a command spells it; and what is spelled in any way can be spelled canonically.
+-- The canonical spelling of a command spells it; and what is spelled in any way can be spelled
+-- canonically.
 abbrev pub CanonicalSpells : Type 0
 CanonicalSpells = (version : ℕ) (c : Command) → IsSpellable version c → Spells version (canonical version c) c
 
@@ -97,7 +99,8 @@ abbrev pub CutIsUnfinished : Type 0
 CutIsUnfinished = (version : ℕ) (cs : List Command) (k : ℕ) → is_version version ≡ true → AreInner version cs
     → k < length (stream_of version cs) → IsUnfinished (take k (stream_of version cs))
 
--- A command that is neither a head nor END nor a clone looks at nothing but the part's own subvolume.
+-- A command that is neither a head nor END nor a clone looks at nothing but the part's own
+-- subvolume.
 abbrev pub EditLooksAtItsPart : Type 0
 EditLooksAtItsPart = (put : List ℕ) (store : Store ℕ) (part : Part ℕ) (c : Command) → is_clone c ≡ false → is_end c ≡ false → head_of c ≡ None
     → edit_part 0 put store part c ≡ edit 0 put c part.subvolume
@@ -107,14 +110,15 @@ abbrev pub StepKeepsCells : Type 0 → Type 0 → Type 0
 StepKeepsCells C D = (f : C → D) (zero_cell : C) (put : List C) (state : State C) (c : Command)
     → step (f zero_cell) (map f put) (recelled_state f state) c ≡ recelled_step f (step zero_cell put state c)
 
--- Items that a base takes in order, all commands among them and whatever of them can be read: their composed commands do what the
--- headline says, where each subvolume of the base that they name is lawful.
+-- Items that a base takes in order, all commands among them and whatever of them can be read: their
+-- composed commands do what the headline says, where each subvolume of the base that they name is
+-- lawful.
 abbrev pub ItemsHold : Type 0
 ItemsHold = (store : Store ℕ) (items : List Item) → IsConsecutive items → IsAccepted (run_items 0 byte_cells (start_of (base_of store items)) items)
     → FindsLawful (base_of store items) (keys_outside items) → AreComposed (base_of store items) items (composed_of (base_of store items) items)
 
--- Where the items' own versions can say their commands, and each subvolume of the base that they name can be said, the version of
--- the composed stream can say the composed ones.
+-- Where the items' own versions can say their commands, and each subvolume of the base that they
+-- name can be said, the version of the composed stream can say the composed ones.
 abbrev pub ItemsSpelled : Type 0
 ItemsSpelled = (store : Store ℕ) (items : List Item) → IsConsecutive items
     → IsAccepted (run_items 0 byte_cells (start_of (base_of store items)) items)
@@ -122,8 +126,9 @@ ItemsSpelled = (store : Store ℕ) (items : List Item) → IsConsecutive items
     → AllByRecursion (λ item. IsSpellable item.version item.command) items
     → AllByRecursion (IsSpellable (version_of items)) (composed_of (base_of store items) items)
 
--- What stands for first items that a base takes, as the part of the last head of all, can be written in the version of the whole
--- stream, where the items' own versions can say all of them, and the format each subvolume of the base that they name.
+-- What stands for first items that a base takes, as the part of the last head of all, can be
+-- written in the version of the whole stream, where the items' own versions can say all of them,
+-- and the format each subvolume of the base that they name.
 abbrev pub FrontsAreWritable : Type 0
 FrontsAreWritable = (store : Store ℕ) (all items more : List Item) (first last : Head) → all ≡ items ++ more
     → IsAccepted (run_items 0 byte_cells (start_of (base_of store all)) items) → FindsSayable (base_of store all) (keys_outside all)
@@ -132,16 +137,16 @@ FrontsAreWritable = (store : Store ℕ) (all items more : List Item) (first last
     → AreInner (version_of all) (head_command last.name last.key first.parent
     ∷ composed_from (base_of store all) (part_uuids all) last.key (start_of (traced_store (base_of store all))) None items)
 
--- A whole reading, as a file of bytes gives it and whatever of it is renamed: the last command is END, and each command can be
--- said in its own version, which is one that is read.
+-- A whole reading, as a file of bytes gives it and whatever of it is renamed: the last command is
+-- END, and each command can be said in its own version, which is one that is read.
 pub record IsWhole (reading : Reading) : Type 0 where
   pub whole : reading.end ≡ Whole
   pub others : List Command
   pub ends : commands_of reading.items ≡ others ++ End ∷ []
   pub writable : AllByRecursion (λ item. CanWrite item.version item.command × (is_version item.version ≡ true)) reading.items
 
--- A whole reading that a base takes in order: the stream of its composed commands is what the headline says, where each subvolume of
--- the base that it names can be said.
+-- A whole reading that a base takes in order: the stream of its composed commands is what the
+-- headline says, where each subvolume of the base that it names can be said.
 abbrev pub ReadingsHold : Type 0
 ReadingsHold = (store : Store ℕ) (reading : Reading) → IsWhole reading → IsConsecutive reading.items
     → IsAccepted (receive_of (base_of store reading.items) reading) → FindsSayable (base_of store reading.items) (keys_outside reading.items)
@@ -171,8 +176,8 @@ PlainFilesHold = (store : Store ℕ) (files : List (List ℕ)) → AllByRecursio
     → AllByRecursion (λ c. is_clone c ≡ false) (commands_of (input files).items)
     → IsComposed (base store files) files (output_for None (base store files) files)
 
--- A base that takes items can itself receive what is composed from them: so the headline speaks of one store at the least, which is
--- not empty where the base is not.
+-- A base that takes items can itself receive what is composed from them: so the headline speaks of
+-- one store at the least, which is not empty where the base is not.
 abbrev pub BaseCanReceive : Type 0
 BaseCanReceive = (base : Store ℕ) (items : List Item) (last : Head) → IsStore base
     → IsAccepted (run_items 0 byte_cells (start_of base) items) → last_head (heads items) ≡ Some last → CanReceiveOf base items last base
@@ -185,13 +190,14 @@ BaseReceives = (base : Store ℕ) (reading : Reading) (written : List ℕ) (c : 
 
 -- ---- paths
 
--- A path leads to an inode, and is not after any other path that does, by bytes. No path of more than 4,095 bytes leads anywhere.
+-- A path leads to an inode, and is not after any other path that does, by bytes. No path of more
+-- than 4,095 bytes leads anywhere.
 pub record IsLeastPath {C : Type 0} (s : Subvolume C) (ino : ℕ) (path : List ℕ) : Type 0 where
   pub leads : walk s path ≡ Ok ino
   pub least : (other : List ℕ) → walk s other ≡ Ok ino → bytes_cmp path other ≢ Greater
 
--- The first path of an inode is the least of all that lead to it, and there is none exactly where none does; and it can be named
--- exactly where a path names it.
+-- The first path of an inode is the least of all that lead to it, and there is none exactly where
+-- none does; and it can be named exactly where a path names it.
 pub record FirstPathsAreLeast {C : Type 0} (s : Subvolume C) : Type 0 where
   pub some : (ino : ℕ) (path : List ℕ) → first_path s ino ≡ Some path → IsLeastPath s ino path
   pub only : (ino : ℕ) (path : List ℕ) → IsLeastPath s ino path → first_path s ino ≡ Some path
@@ -202,8 +208,9 @@ pub record FirstPathsAreLeast {C : Type 0} (s : Subvolume C) : Type 0 where
 
 -- ---- counts
 
--- From every state, the commands that stand for items carry the items' own bytes and the uncarried cells of the redirected
--- ranges, and have the clones that are not redirected and one for each run of carried blocks.
+-- From every state, the commands that stand for items carry the items' own bytes and the uncarried
+-- cells of the redirected ranges, and have the clones that are not redirected and one for each run
+-- of carried blocks.
 pub record AreCounted (store : Store ℕ) (parts : List (List ℕ)) (last : Key) (state : State Traced) (current : Option (List ℕ))
     (items : List Item) : Type 0 where
   pub bytes : literal (composed_from store parts last state current items)
@@ -213,6 +220,7 @@ pub record AreCounted (store : Store ℕ) (parts : List (List ℕ)) (last : Key)
 
 -- ---- generated chains
 
--- The chain that a number gives is lawful: over no store, its commands are taken, and its parts follow each other.
+-- The chain that a number gives is lawful: over no store, its commands are taken, and its parts
+-- follow each other.
 abbrev pub ChainIsLawful : Type 0
 ChainIsLawful = (seed count : ℕ) → 1 ≤ count → count ≤ 4_096 → judge_of [] (record { items = chain_items seed count; end = Whole }) ≡ None

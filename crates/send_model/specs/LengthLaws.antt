@@ -7,8 +7,9 @@ use Rattle.send_model.specs.Due.{AtLimit, limited_from}
 
 -- ---- one file
 
--- A file is too long where as many bytes of it as are read at the most are there, and these bytes are read whole or are cut short.
--- One that ends before the limit is not, nor is one whose bytes before the limit break a rule.
+-- A file is too long where as many bytes of it as are read at the most are there, and these bytes
+-- are read whole or are cut short. One that ends before the limit is not, nor is one whose bytes
+-- before the limit break a rule.
 pub record IsMeasured (number : ℕ) (bytes : List ℕ) : Type 0 where
   pub whole : limit ≤ length bytes → (reads number (take limit bytes)).end ≡ Whole → is_too_long number bytes ≡ true
   pub cut : (verdict : Verdict) → limit ≤ length bytes → (reads number (take limit bytes)).end ≡ Faulty verdict → verdict.refusal ≡ Truncated
@@ -65,7 +66,8 @@ NamedStopsReading = (number n : ℕ) (files : List (List ℕ)) → too_long_from
 abbrev pub StoppedIsNamed : Type 0
 StoppedIsNamed = (number n : ℕ) (files : List (List ℕ)) → (limited_from number files).stop ≡ AtLimit n → too_long_from number files ≡ Some n
 
--- Before that stand the commands of the files before it, and those of its own bytes before the limit.
+-- Before that stand the commands of the files before it, and those of its own bytes before the
+-- limit.
 abbrev pub ReadToTheLimit : Type 0
 ReadToTheLimit = (number n : ℕ) (files : List (List ℕ)) (first : IsFirstLong number n files)
     → (limited_from number files).items ≡ (input_from number (first.before ++ take limit first.bytes ∷ [])).items

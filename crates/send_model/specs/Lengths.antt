@@ -1,6 +1,6 @@
 -- How much of a file is read, and which file is too long. The limit is this program's own.
 use Rattle.std.specs.Prelude.{ℕ, ◌+◌, ◌^◌, Bool, true, false, ◌&&◌, List, [], ◌∷◌, length, take, Option, None, Some, nat_le, if◌then◌else◌}
-use Rattle.send_model.specs.Refusal.{Refusal, BadVersion, LongCommand, BadChecksum, UnknownCommand, BadAttribute, MissingAttribute, NotBuilt, Guarded, BadFallocate, BadMagic, Truncated, NoSubvolume, BadName, NameThere, UuidThere, NoParent, BadPath, NoEntry, NotDirectory, EntryThere, IsDirectory, NotEmpty, IntoItself, NotFile, BadXattr, NoXattr, BadDevice, BadTime, IsRoot, FileTooBig, NoSource, BadRange, Unaligned, Overlap, Encoded, NotConsecutive, NoNumber}
+use Rattle.send_model.specs.Refusal.{Refusal, BadVersion, LongCommand, BadChecksum, UnknownCommand, BadAttribute, MissingAttribute, NotBuilt, Guarded, BadFallocate, BadMagic, Truncated, NoSubvolume, BadName, NameThere, UuidThere, NoParent, BadPath, NoEntry, NotDirectory, EntryThere, IsDirectory, NotEmpty, IntoItself, NotFile, BadXattr, NoXattr, BadDevice, BadTime, IsRoot, FileTooBig, NoSource, BadRange, Unaligned, Overlap, Encoded, NotConsecutive, BadText, NoNumber}
 use Rattle.send_model.specs.Reading.{Ending, Whole, Faulty, reads}
 
 -- How many bytes of a file are read at the most.
@@ -44,6 +44,7 @@ is_truncated Unaligned = false
 is_truncated Overlap = false
 is_truncated Encoded = false
 is_truncated NotConsecutive = false
+is_truncated BadText = false
 is_truncated NoNumber = false
 
 -- Bytes that break no rule, but that there are no more of them.
@@ -51,8 +52,8 @@ abbrev pub only_ends : Ending → Bool
 only_ends Whole = true
 only_ends (Faulty verdict) = is_truncated verdict.refusal
 
--- A file, which is the given one of several, is too long where it has as many bytes as are read at the most, and these
--- bytes are read whole or are cut short.
+-- A file, which is the given one of several, is too long where it has as many bytes as are read at
+-- the most, and these bytes are read whole or are cut short.
 unfoldable pub is_too_long : ℕ → List ℕ → Bool
 is_too_long number bytes = nat_le limit (length bytes) && only_ends (reads number (take limit bytes)).end
 
@@ -61,8 +62,8 @@ abbrev pub unless_faulty : Ending → Option ℕ → Option ℕ
 unless_faulty Whole after = after
 unless_faulty (Faulty verdict) after = None
 
--- The number of the first file that is too long, of files counted from the given number, where all files before it are
--- read whole.
+-- The number of the first file that is too long, of files counted from the given number, where all
+-- files before it are read whole.
 unfoldable pub too_long_from : ℕ → List (List ℕ) → Option ℕ
 too_long_from number [] = None
 too_long_from number (bytes ∷ files) =

@@ -28,7 +28,7 @@ pub mod Headline
 pub mod Lawful
 pub mod Due
 pub mod Thinned
-pub mod Renamed
+pub mod Overridden
 pub mod Sources
 pub mod NamedWords
 pub mod LengthLaws
@@ -39,3 +39,5 @@ pub mod Laws
 pub mod Opened
 pub mod Separated
 pub mod Exported
+pub mod Meanings
+pub mod ExportPromises

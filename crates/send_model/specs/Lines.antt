@@ -1,4 +1,5 @@
--- What `dump` prints of a file: a line for each stream that has a command, and one for each command. The lines are this program's own.
+-- What `dump` prints of a file: a line for each stream that has a command, and one for each
+-- command. The lines are this program's own.
 use Rattle.std.specs.Prelude.{ℕ, ◌==◌, Bool, true, List, [], ◌∷◌, ◌++◌, length, codes, if◌then◌else◌}
 use Rattle.std.specs.Fmt.{decimal}
 use Rattle.std.specs.Ordering.{nat_cmp}
@@ -20,23 +21,35 @@ value_names =
     ∷ (CLONE_CTRANSID, codes "clone_ctransid") ∷ (CLONE_PATH, codes "clone_path") ∷ (CLONE_OFFSET, codes "clone_offset")
     ∷ (CLONE_LEN, codes "clone_len") ∷ (FALLOCATE_MODE, codes "fmode") ∷ (FILE_FLAGS, codes "flags") ∷ []
 
--- A value: the mode of a file in octal, other numbers in decimal; names and paths escaped; of other bytes how many they are.
-abbrev pub value_text : ℕ → Field → List ℕ
-value_text kind (Identifier bytes) = uuid_text bytes
-value_text kind (Number n) = if kind == MODE then octal n else decimal n
-value_text kind (ShortNumber n) = decimal n
-value_text kind (Moment t) = time_text t
-value_text kind (Bytes bytes) = if is_one_of kind (XATTR_DATA ∷ DATA ∷ []) then decimal (length bytes) else escaped bytes
+-- A value: the mode of a file in octal, other numbers in decimal; names and paths escaped; the
+-- contents of a file or of an extended attribute in a form that is given.
+abbrev pub value_with : (List ℕ → List ℕ) → ℕ → Field → List ℕ
+value_with contents kind (Identifier bytes) = uuid_text bytes
+value_with contents kind (Number n) = if kind == MODE then octal n else decimal n
+value_with contents kind (ShortNumber n) = decimal n
+value_with contents kind (Moment t) = time_text t
+value_with contents kind (Bytes bytes) = if is_one_of kind (XATTR_DATA ∷ DATA ∷ []) then contents bytes else escaped bytes
 
 -- Each value after a space, with its name.
-abbrev pub values_text : List ℕ → List Field → List ℕ
-values_text (kind ∷ kinds) (field ∷ fields) =
-    0x20 ∷ unwrap_or (value_at nat_cmp kind value_names) [] ++ 0x3d ∷ value_text kind field ++ values_text kinds fields
-values_text [] [] = []
-values_text [] (field ∷ fields) = []
-values_text (kind ∷ kinds) [] = []
+abbrev pub values_with : (List ℕ → List ℕ) → List ℕ → List Field → List ℕ
+values_with contents (kind ∷ kinds) (field ∷ fields) =
+    0x20 ∷ unwrap_or (value_at nat_cmp kind value_names) [] ++ 0x3d ∷ value_with contents kind field ++ values_with contents kinds fields
+values_with contents [] [] = []
+values_with contents [] (field ∷ fields) = []
+values_with contents (kind ∷ kinds) [] = []
 
--- A command's line: its number, the place of its frame, its name, and its values in the order of its wanted attributes.
+-- `dump` prints of contents how many bytes they have.
+abbrev pub count_text : List ℕ → List ℕ
+count_text bytes = decimal (length bytes)
+
+abbrev pub value_text : ℕ → Field → List ℕ
+value_text kind field = value_with count_text kind field
+
+abbrev pub values_text : List ℕ → List Field → List ℕ
+values_text kinds fields = values_with count_text kinds fields
+
+-- A command's line: its number, the place of its frame, its name, and its values in the order of
+-- its wanted attributes.
 unfoldable pub command_line : Item → List ℕ
 command_line item =
     decimal item.number ++ 0x20 ∷ decimal item.offset ++ 0x20 ∷ (row (kind_of item.command)).name

@@ -1,5 +1,5 @@
--- A finite map is the list of its entries in rising order of their keys; two maps are equal where their entries are.
--- This program's own; the entries are those of std's maps.
+-- A finite map is the list of its entries in rising order of their keys; two maps are equal where
+-- their entries are. This program's own; the entries are those of std's maps.
 use Rattle.std.specs.Prelude.{ℕ, not, T, List, map, Option}
 use Rattle.std.specs.declared.cmp.Ordering.{Ordering}
 use Rattle.std.specs.Ordering.{nat_cmp, ordering_then, eq_by_cmp}

@@ -1,5 +1,6 @@
--- The words that give names with files: `name:NEW` in front of a file, and NEW is the name of the part or parts in it. What is due to such
--- words, and what they write. They are this program's own; no word of it gives a name yet.
+-- The words that give names alone with files: `name:NEW` in front of a file, and NEW is the name of
+-- the part or parts in it. What is due to such words, and what they write. `FileWords` of
+-- `program_model` has all words that stand in front of a file. This program's own.
 use Rattle.std.specs.Prelude.{◌≡◌, ◌<◌, ℕ, ◌+◌, ◌^◌, Bool, false, List, [], ◌∷◌, map, take, drop, length, Option, None, Some, codes, nat_lt, if◌then◌else◌}
 use Rattle.std.specs.List.{AllByRecursion}
 use Rattle.std.specs.Str.{bytes_eq}
@@ -8,8 +9,8 @@ use Rattle.send_model.specs.Store.{Store}
 use Rattle.send_model.specs.Guards.{GuardSpec, guard_of, is_guard_word}
 use Rattle.send_model.specs.Due.{Due}
 use Rattle.send_model.specs.Words.{Request, Compose, Audit, Export, is_word, request_of, due, whole_of}
-use Rattle.send_model.specs.Renamed.{Names, AreNewNames}
-use Rattle.send_model.specs.Sources.{Sources, sources, renamed_sources, due_of, whole_from}
+use Rattle.send_model.specs.Overridden.{Overrides, AreLawfulOverrides}
+use Rattle.send_model.specs.Sources.{Sources, sources, overridden_sources, due_of, whole_from}
 
 -- A file, by its place in the words, counted from 0, and the name that is given with it.
 pub record GivenFile : Type 0 where
@@ -38,8 +39,8 @@ abbrev pub onto_files : GivenFile → Option (List GivenFile) → Option (List G
 onto_files file None = None
 onto_files file (Some files) = Some (file ∷ files)
 
--- Files, each with at most one name in front of it, from a place on; the name that stands in front already is given first. A name in
--- front of no file, or in front of another name, means nothing.
+-- Files, each with at most one name in front of it, from a place on; the name that stands in front
+-- already is given first. A name in front of no file, or in front of another name, means nothing.
 unfoldable pub files_from : Option (List ℕ) → ℕ → List (List ℕ) → Option (List GivenFile)
 files_from None at [] = Some []
 files_from (Some name) at [] = None
@@ -59,7 +60,8 @@ abbrev pub store_and_given : (ℕ → List GivenFile → NamedRequest) → ℕ �
 store_and_given request at [] = None
 store_and_given request at (store ∷ words) = with_files (request at) (files_from None (at + 1) words)
 
--- Guard words, and behind them a store and files: the first word that does not begin as a guard's is the store.
+-- Guard words, and behind them a store and files: the first word that does not begin as a guard's
+-- is the store.
 unfoldable pub guards_and_given : (List GuardSpec → ℕ → List GivenFile → NamedRequest) → ℕ → List (List ℕ) → Option NamedRequest
 guards_and_given request at [] = None
 guards_and_given request at (word ∷ words) =
@@ -67,8 +69,9 @@ guards_and_given request at (word ∷ words) =
     then (elim (guard_of word) [ None ↦ None | Some guard ↦ guards_and_given (λ guards. request (guard ∷ guards)) (at + 1) words ])
     else store_and_given (request []) at (word ∷ words)
 
--- `compose STORE [name:NEW] FILE ..`, `export STORE [name:NEW] FILE ..`, `audit [GUARD..] STORE [name:NEW] FILE ..` and
--- `receive [GUARD..] STORE [name:NEW] FILE ..`; other words mean what they mean without names.
+-- `compose STORE [name:NEW] FILE ..`, `export STORE [name:NEW] FILE ..`, `audit [GUARD..] STORE
+-- [name:NEW] FILE ..` and `receive [GUARD..] STORE [name:NEW] FILE ..`; other words mean what they
+-- mean without names.
 unfoldable pub named_request_of : List (List ℕ) → Option NamedRequest
 named_request_of [] = None
 named_request_of (word ∷ words) =
@@ -80,14 +83,15 @@ named_request_of (word ∷ words) =
 
 -- ---- answers
 
-abbrev pub names_of : List GivenFile → Names
-names_of files = map (λ file. file.name) files
+abbrev pub names_of : List GivenFile → Overrides
+names_of files = map (λ file. record { name = file.name; parents = [] }) files
 
 -- What is read of the files, with the names that are given.
 abbrev pub sources_as : List GivenFile → List (List ℕ) → Sources
-sources_as given files = renamed_sources (names_of given) (sources files)
+sources_as given files = overridden_sources (names_of given) (sources files)
 
--- The answer that is due over a base, for the bytes of the files. To receive it is what is due to an audit, unless the store is full.
+-- The answer that is due over a base, for the bytes of the files. To receive it is what is due to
+-- an audit, unless the store is full.
 unfoldable pub named_due : NamedRequest → Store ℕ → List (List ℕ) → Due
 named_due (ComposeAs store given) base files = due_of (Compose store 0) base (sources_as given files)
 named_due (AuditAs guards store given) base files = due_of (Audit guards store 0) base (sources_as given files)
@@ -117,7 +121,7 @@ PlainFilesAreGiven = (at : ℕ) (words : List (List ℕ)) → AllByRecursion (λ
 -- Each name that is given is one that an attribute has room for, where the words are bytes.
 abbrev pub GivenNamesFit : Type 0
 GivenNamesFit = (at : ℕ) (words : List (List ℕ)) (given : List GivenFile) → AllByRecursion IsBytes words → files_from None at words ≡ Some given
-    → AreNewNames (names_of given)
+    → AreLawfulOverrides (names_of given)
 
 -- And each that an attribute has room for can be given.
 abbrev pub ShortNamesAreGiven : Type 0

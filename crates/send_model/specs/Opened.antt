@@ -1,7 +1,8 @@
--- The file that the real `btrfs receive` keeps open to write to. It remembers the path by which it opened it, and as long as commands
--- write to a path of this spelling, it writes to that file, whatever the path names by then. It closes the file at a head and at END.
--- Source: open_inode_for_write and its callers in cmds/receive.c of btrfs-progs 6.2, process_write, process_clone and
--- process_fallocate; finish_subvol.
+-- The file that the real `btrfs receive` keeps open to write to. It remembers the path by which it
+-- opened it, and as long as commands write to a path of this spelling, it writes to that file,
+-- whatever the path names by then. It closes the file at a head and at END. Source:
+-- open_inode_for_write and its callers in cmds/receive.c of btrfs-progs 6.2, process_write,
+-- process_clone and process_fallocate; finish_subvol.
 use Rattle.std.specs.Prelude.{◌≡◌, ℕ, ◌+◌, ◌==◌, Bool, false, not, ◌&&◌, ◌||◌, List, [], ◌∷◌, length, take, drop, Option, None, Some, Result, Ok, Err, nat_lt, nat_le, if◌then◌else◌}
 use Rattle.std.specs.Str.{bytes_eq}
 use Rattle.send_model.specs.Refusal.{Refusal, NoSubvolume, NoSource, NotFile, BadRange, Unaligned, FileTooBig, Overlap, BadFallocate}
@@ -13,7 +14,8 @@ use Rattle.send_model.specs.Clone.{cells_of, is_aligned, overlap}
 use Rattle.send_model.specs.Store.{Store, Part, State, After, Stepped, key_of, step, edited, clone_source}
 use Rattle.send_model.specs.Receive.{bytes_of}
 
--- The path of the file that a command writes to through the file that is kept open. TRUNCATE and all others go by their path alone.
+-- The path of the file that a command writes to through the file that is kept open. TRUNCATE and
+-- all others go by their path alone.
 abbrev pub written_path : Command → Option (List ℕ)
 written_path (Write path offset bytes) = Some path
 written_path (Clone path offset clone_uuid clone_ctransid clone_path clone_offset clone_len) = Some path
@@ -45,7 +47,8 @@ pub record Opened : Type 0 where
   pub path : List ℕ
   pub ino : ℕ
 
--- The inode that is written to without being opened anew: that of the open file, where its path is spelled alike.
+-- The inode that is written to without being opened anew: that of the open file, where its path is
+-- spelled alike.
 abbrev pub kept_at : Option Opened → Option (List ℕ) → Option ℕ
 kept_at None path = None
 kept_at (Some opened) None = None
@@ -59,7 +62,8 @@ abbrev pub opened_at : {C : Type 0} → Option (Part C) → List ℕ → Option 
 opened_at None path = None
 opened_at (Some part) path = elim (walk part.subvolume path) [ Err refusal ↦ None | Ok ino ↦ Some (record { path = path; ino = ino }) ]
 
--- The file that is open after a command: none after a head or END; after one that writes, the one that it wrote to.
+-- The file that is open after a command: none after a head or END; after one that writes, the one
+-- that it wrote to.
 abbrev pub open_after : {C : Type 0} → Option Opened → Option (Part C) → Option (List ℕ) → Option Opened
 open_after opened part None = opened
 open_after opened part (Some path) = elim (kept_at opened (Some path)) [ Some ino ↦ opened | None ↦ opened_at part path ]
@@ -92,7 +96,8 @@ opened_after opened part (FileAttr path flags) = opened
 
 -- ---- the receiver's step
 
--- What a command does that writes to an open file. Where its inode is gone, nothing in the subvolume changes.
+-- What a command does that writes to an open file. Where its inode is gone, nothing in the
+-- subvolume changes.
 unfoldable pub edit_open : {C : Type 0} → C → List C → Store C → Part C → ℕ → Command → Result (Subvolume C) Refusal
 edit_open zero_cell put store part ino (Write path offset bytes) = do
   require (nat_le (offset + length put) greatest_end) FileTooBig
@@ -138,7 +143,8 @@ step_open zero_cell put state ino command = elim state.part [
   | Some part ↦ edited state.store part (edit_open zero_cell put state.store part ino command)
 ]
 
--- What the real receiver has while it receives: the store and the part, and the file that it keeps open.
+-- What the real receiver has while it receives: the store and the part, and the file that it keeps
+-- open.
 pub record Receiver (C : Type 0) : Type 0 where
   pub state : State C
   pub opened : Option Opened

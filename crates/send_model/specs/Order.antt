@@ -1,6 +1,7 @@
--- The order of parts that compose asks for: each part but the first is a snapshot of the part before it. And the verdict on
--- files: the first command that is refused, by its step or by this order, or the fault with which their reading ended.
--- The order is this program's own: `btrfs receive` takes parts in any order that their parents allow.
+-- The order of parts that compose asks for: each part but the first is a snapshot of the part
+-- before it. And the verdict on files: the first command that is refused, by its step or by this
+-- order, or the fault with which their reading ended. The order is this program's own: `btrfs
+-- receive` takes parts in any order that their parents allow.
 use Rattle.std.specs.Prelude.{◌≡◌, ◌≢◌, ℕ, Bool, false, not, List, [], ◌∷◌, map, Option, None, Some, if◌then◌else◌}
 use Rattle.send_model.specs.Refusal.{NotConsecutive}
 use Rattle.send_model.specs.Command.{Command}
@@ -50,7 +51,8 @@ abbrev pub part_after : Option Key → Option Head → Option Key
 part_after previous None = previous
 part_after previous (Some head) = Some head.key
 
--- The verdict on an item and those after it: its step is refused, or its head breaks the order, or the verdict on the rest.
+-- The verdict on an item and those after it: its step is refused, or its head breaks the order, or
+-- the verdict on the rest.
 abbrev pub then_judge : {C : Type 0} → Item → Stepped C → Bool → Option Verdict → Option Verdict
 then_judge item stepped breaks rest = elim stepped.refusal [
   | Some refusal ↦ Some (verdict_of item refusal)
@@ -93,7 +95,8 @@ then_lawful item stepped breaks rest = elim stepped.refusal [
   | None ↦ if breaks then [] else item ∷ rest
 ]
 
--- The items before the first that its step refuses or whose head breaks the order; all of them, where there is none.
+-- The items before the first that its step refuses or whose head breaks the order; all of them,
+-- where there is none.
 unfoldable pub lawful_items : {C : Type 0} → C → (Item → List C) → State C → Option Key → List Item → List Item
 lawful_items zero_cell cells state previous [] = []
 lawful_items zero_cell cells state previous (item ∷ items) = let stepped = step zero_cell (cells item) state item.command in

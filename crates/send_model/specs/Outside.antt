@@ -1,4 +1,5 @@
--- What files need of a store beside their own parts: the subvolumes that they name as parents and as sources of clones.
+-- What files need of a store beside their own parts: the subvolumes that they name as parents and
+-- as sources of clones.
 use Rattle.std.specs.Prelude.{◌≡◌, ◌⊎◌, ℕ, Bool, ◌≤◌, not, List, [], ◌∷◌, map, length, Some}
 use Rattle.std.specs.List.{list_any, filter, flat_map, AllByRecursion}
 use Rattle.std.specs.Str.{bytes_eq}
@@ -79,7 +80,8 @@ SameOn s t keys = AllByRecursion (λ key. find s key ≡ find t key) keys
 abbrev pub FindsLawful : Store ℕ → List Key → Type 0
 FindsLawful store keys = (key : Key) (s : Subvolume ℕ) → IsAmong key keys → find store key ≡ Some s → IsLawful s
 
--- What the format can say of a subvolume: it is lawful, its names and its contents are bytes, and no file is too big.
+-- What the format can say of a subvolume: it is lawful, its names and its contents are bytes, and
+-- no file is too big.
 pub record IsSayable (s : Subvolume ℕ) : Type 0 where
   pub lawful : IsLawful s
   pub byte_names : AllByRecursion (λ e. IsBytes e.0.1) s.names

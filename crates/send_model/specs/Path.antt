@@ -28,8 +28,8 @@ between_slashes (b ∷ bytes) = if b == slash then [] ∷ between_slashes bytes 
 abbrev pub longest_path : ℕ
 longest_path = 4_095
 
--- The names of a path, from the root on: none for the empty path, which is the root itself. Nothing where the path is
--- too long, or is not empty and one of its pieces is no name.
+-- The names of a path, from the root on: none for the empty path, which is the root itself. Nothing
+-- where the path is too long, or is not empty and one of its pieces is no name.
 unfoldable pub path_names : List ℕ → Option (List (List ℕ))
 path_names [] = Some []
 path_names (b ∷ bytes) =

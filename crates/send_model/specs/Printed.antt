@@ -1,5 +1,5 @@
--- How bytes, identifiers, numbers and moments are printed: with no blank and no line end in them. These forms are this program's
--- own; btrfs receive --dump prints in its own way.
+-- How bytes, identifiers, numbers and moments are printed: with no blank and no line end in them.
+-- These forms are this program's own; btrfs receive --dump prints in its own way.
 use Rattle.std.specs.Prelude.{ℕ, ◌+◌, ◌-◌, ◌/◌, ◌%◌, ◌==◌, Bool, false, not, ◌&&◌, nat_lt, nat_le, if◌then◌else◌, List, [], ◌∷◌, ◌++◌, length, take, drop, replicate}
 use Rattle.std.specs.List.{flat_map}
 use Rattle.std.specs.Fmt.{decimal, digits}

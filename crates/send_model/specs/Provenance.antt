@@ -1,6 +1,7 @@
--- Where the cells of cloned ranges come from: a byte of a subvolume outside the files stands at a place there, and edits
--- carry this with the byte. Bytes that commands write, and zero bytes that they make, come from nowhere outside.
--- Which blocks of a redirected clone are carried by an outside subvolume is decided by these places alone. This program's own.
+-- Where the cells of cloned ranges come from: a byte of a subvolume outside the files stands at a
+-- place there, and edits carry this with the byte. Bytes that commands write, and zero bytes that
+-- they make, come from nowhere outside. Which blocks of a redirected clone are carried by an
+-- outside subvolume is decided by these places alone. This program's own.
 use Rattle.std.specs.Prelude.{ℕ, zero, suc, ◌+◌, ◌%◌, ◌==◌, Bool, true, false, not, ◌&&◌, ◌||◌, List, [], ◌∷◌, ◌++◌, map, length, take, drop, Option, None, Some, Ok, Err, if◌then◌else◌}
 use Rattle.std.specs.List.{sum_by, count_by}
 use Rattle.std.specs.Str.{bytes_eq}
@@ -135,7 +136,7 @@ is_redirected parts current (Fallocate size path offset mode) = false
 is_redirected parts current (FileAttr path flags) = false
 
 -- The cells that a CLONE puts at its place in the current part; none where it is refused.
-unfoldable pub clone_range : State Traced → Command → List Traced
+unfoldable pub clone_range : {C : Type 0} → State C → Command → List C
 clone_range state (Clone path offset clone_uuid clone_ctransid clone_path clone_offset clone_len) = elim state.part [
   | None ↦ []
   | Some part ↦ elim (cloned part.subvolume (clone_source state.store part (record { uuid = clone_uuid; ctransid = clone_ctransid }))
@@ -171,12 +172,22 @@ clone_range state (FileAttr path flags) = []
 abbrev pub traced_step : State Traced → Item → Stepped Traced
 traced_step state item = step (fresh 0) (fresh_cells item) state item.command
 
+-- What is asked of each redirected clone among items, in order, from the state before it; it is
+-- given what an item makes of a state.
+unfoldable pub redirected_by : {S R : Type 0} → (S → Item → S) → (S → Command → R) → List (List ℕ) → S → Option (List ℕ) → List Item → List R
+redirected_by does asked parts state current [] = []
+redirected_by does asked parts state current (item ∷ items) =
+    let others = redirected_by does asked parts (does state item) (uuid_after current item.command) items in
+    if is_redirected parts current item.command then asked state item.command ∷ others else others
+
+-- What an item makes of a traced state.
+abbrev pub traced_after : State Traced → Item → State Traced
+traced_after state item = (traced_step state item).state
+
 -- The ranges of the redirected clones among items, in order.
 unfoldable pub ranges_from : List (List ℕ) → State Traced → Option (List ℕ) → List Item → List (List Traced)
-ranges_from parts state current [] = []
-ranges_from parts state current (item ∷ items) =
-    let others = ranges_from parts (traced_step state item).state (uuid_after current item.command) items in
-    if is_redirected parts current item.command then clone_range state item.command ∷ others else others
+unfolding redirected_by
+ranges_from parts state current items = redirected_by traced_after clone_range parts state current items
 
 -- The ranges of all redirected clones of items, received into a base, and of files.
 abbrev pub ranges_of : Store ℕ → List Item → List (List Traced)
@@ -184,7 +195,8 @@ ranges_of store items = ranges_from (part_uuids items) (start_of (traced_store s
 
 -- ---- blocks
 
--- The blocks of a range from its start; the last may be short. The first number bounds how many there are.
+-- The blocks of a range from its start; the last may be short. The first number bounds how many
+-- there are.
 abbrev pub blocks_from : {A : Type 0} → ℕ → List A → List (List A)
 blocks_from zero cells = []
 blocks_from (suc n) [] = []
@@ -208,9 +220,9 @@ abbrev pub come_from : Place → List Traced → Bool
 come_from place [] = true
 come_from place (c ∷ cells) = is_at c.place place && come_from (next_place place) cells
 
--- A block of a length may be cloned from a place: it begins a block of a file that a path names, and is whole or ends where
--- that file ends.
-abbrev pub can_serve : Option (Subvolume ℕ) → Place → ℕ → Bool
+-- A block of a length may be cloned from a place: it begins a block of a file that a path names,
+-- and is whole or ends where that file ends.
+abbrev pub can_serve : {C : Type 0} → Option (Subvolume C) → Place → ℕ → Bool
 can_serve None place len = false
 can_serve (Some s) place len =
     (place.offset % block_len == 0) && (is_file s place.ino && is_nameable s place.ino)
@@ -226,19 +238,26 @@ carried_from store (c ∷ cells) = elim c.place [
 
 -- ---- pieces
 
--- A piece of a redirected range: carried from an outside place, or literal bytes; with its place in the range.
+-- A piece of a redirected range: carried from an outside place, or literal bytes; with its place in
+-- the range.
 pub data Piece : Type 0 where
   Carried : (at : ℕ) (place : Place) (len : ℕ) → Piece
   Literal : (at : ℕ) (bytes : List ℕ) → Piece
 
+-- The piece of one block of any cells, by the bytes that they have and the place from which a block
+-- can be cloned, if there is one.
+abbrev pub piece_by : {C : Type 0} → (C → ℕ) → (List C → Option Place) → ℕ → List C → Piece
+piece_by byte_in source at block = elim (source block) [ None ↦ Literal at (map byte_in block) | Some place ↦ Carried at place (length block) ]
+
 abbrev pub piece_of : Store ℕ → ℕ → List Traced → Piece
-piece_of store at block = elim (carried_from store block) [ None ↦ Literal at (map (λ c. c.byte) block) | Some place ↦ Carried at place (length block) ]
+piece_of store at block = piece_by (λ c. c.byte) (carried_from store) at block
 
 -- A place that many places further on.
 abbrev pub place_after : Place → ℕ → Place
 place_after place len = record place { offset = place.offset + len }
 
--- A piece before others: literal bytes join, and so do carried blocks that follow each other in one file.
+-- A piece before others: literal bytes join, and so do carried blocks that follow each other in one
+-- file.
 abbrev pub join_piece : Piece → List Piece → List Piece
 join_piece (Literal at bytes) [] = Literal at bytes ∷ []
 join_piece (Literal at bytes) (Literal at' bytes' ∷ rest) = Literal at (bytes ++ bytes') ∷ rest
@@ -249,11 +268,15 @@ join_piece (Carried at place len) (Carried at' place' len' ∷ rest) =
     if same_place (place_after place len) place' then Carried at place (len + len') ∷ rest
     else Carried at place len ∷ Carried at' place' len' ∷ rest
 
-abbrev pub pieces_from : Store ℕ → ℕ → List (List Traced) → List Piece
-pieces_from store at [] = []
-pieces_from store at (block ∷ others) = join_piece (piece_of store at block) (pieces_from store (at + length block) others)
+abbrev pub pieces_by : {C : Type 0} → (C → ℕ) → (List C → Option Place) → ℕ → List (List C) → List Piece
+pieces_by byte_in source at [] = []
+pieces_by byte_in source at (block ∷ others) = join_piece (piece_by byte_in source at block) (pieces_by byte_in source (at + length block) others)
 
--- The pieces of a range: the maximal runs of carried blocks, and the stretches of other bytes between them.
+abbrev pub pieces_from : Store ℕ → ℕ → List (List Traced) → List Piece
+pieces_from store at cut = pieces_by (λ c. c.byte) (carried_from store) at cut
+
+-- The pieces of a range: the maximal runs of carried blocks, and the stretches of other bytes
+-- between them.
 unfoldable pub pieces_of : Store ℕ → List Traced → List Piece
 pieces_of store range = pieces_from store 0 (blocks range)
 
@@ -265,12 +288,20 @@ abbrev pub is_run : Piece → Bool
 is_run (Carried at place len) = true
 is_run (Literal at bytes) = false
 
--- How many cells of some ranges stand in no carried block, and how many runs of carried blocks there are.
+-- How many bytes the pieces of some ranges write, and how many runs they clone.
+abbrev pub literal_in : List (List Piece) → ℕ
+literal_in ranges = sum_by (λ pieces. sum_by literal_len pieces) ranges
+
+abbrev pub runs_among : List (List Piece) → ℕ
+runs_among ranges = sum_by (λ pieces. count_by is_run pieces) ranges
+
+-- How many cells of some ranges stand in no carried block, and how many runs of carried blocks
+-- there are.
 abbrev pub uncarried_in : Store ℕ → List (List Traced) → ℕ
-uncarried_in store ranges = sum_by (λ pieces. sum_by literal_len pieces) (map (pieces_of store) ranges)
+uncarried_in store ranges = literal_in (map (pieces_of store) ranges)
 
 abbrev pub runs_in : Store ℕ → List (List Traced) → ℕ
-runs_in store ranges = sum_by (λ pieces. count_by is_run pieces) (map (pieces_of store) ranges)
+runs_in store ranges = runs_among (map (pieces_of store) ranges)
 
 -- The same of the redirected ranges of items, and of files.
 abbrev pub uncarried_cells : Store ℕ → List Item → ℕ

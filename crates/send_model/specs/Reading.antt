@@ -1,5 +1,6 @@
--- Reading a file of streams, of either version, from the front: its commands, and how the reading ends. The first rule that is broken ends
--- it, with the refusal of that rule. Source: read_and_process_cmd in send-stream.c of btrfs-progs.
+-- Reading a file of streams, of either version, from the front: its commands, and how the reading
+-- ends. The first rule that is broken ends it, with the refusal of that rule. Source:
+-- read_and_process_cmd in send-stream.c of btrfs-progs.
 use Rattle.std.specs.Prelude.{ℕ, zero, suc, ◌+◌, ◌-◌, Bool, true, false, ◌&&◌, ◌||◌, not, List, [], ◌∷◌, ◌++◌, length, take, drop, Option, None, Some, Result, Ok, Err, nat_lt, nat_le, ◌==◌, if◌then◌else◌}
 use Rattle.std.specs.List.{list_all}
 use Rattle.std.specs.Option.{unwrap_or}
@@ -27,7 +28,8 @@ header_len = 17
 abbrev pub is_version : ℕ → Bool
 is_version version = (version == 1) || (version == 2)
 
--- The version of the stream whose header stands in front: too few bytes, another text, another version.
+-- The version of the stream whose header stands in front: too few bytes, another text, another
+-- version.
 unfoldable pub stream_version : List ℕ → Result ℕ Refusal
 stream_version bytes = do
   require (nat_le header_len (length bytes)) Truncated
@@ -46,8 +48,8 @@ pub record Frame : Type 0 where
   pub body : List ℕ
   pub rest : List ℕ
 
--- The frame whose header says a length, a number and a checksum, before the bytes after the header: too long a body, too few
--- bytes for it, another checksum.
+-- The frame whose header says a length, a number and a checksum, before the bytes after the header:
+-- too long a body, too few bytes for it, another checksum.
 unfoldable pub frame_with : ℕ → ℕ → ℕ → List ℕ → Result Frame Refusal
 frame_with len number stored after = do
   refuse_if (nat_lt greatest_body len) (LongCommand len)
@@ -92,8 +94,8 @@ attribute_lawful version seen body =
 abbrev pub attribute_in : ℕ → List ℕ → Attribute
 attribute_in version body = record { kind = number16 body; bytes = take (attribute_len version body) (drop (attribute_head version (number16 body)) body) }
 
--- The attributes of a body from the front on, the first breach of these rules being BadAttribute with its number.
--- The first number bounds how many there are; the body's length is always enough.
+-- The attributes of a body from the front on, the first breach of these rules being BadAttribute
+-- with its number. The first number bounds how many there are; the body's length is always enough.
 unfoldable pub attributes_from : ℕ → ℕ → List ℕ → List ℕ → Result (List Attribute) Refusal
 attributes_from zero version seen body = Ok []
 attributes_from (suc n) version seen [] = Ok []
@@ -141,8 +143,9 @@ nanos_lawful NoForm bytes = true
 abbrev pub moment_lawful : List Attribute → ℕ → Bool
 moment_lawful attributes kind = nanos_lawful (form_of kind) (bytes_at attributes kind)
 
--- The command of a number with these attributes. Its refusals in order: the number of ENCODED_WRITE, no such number, the first
--- wanted attribute that is missing or has a wrong length, a bad time.
+-- The command of a number with these attributes. Its refusals in order: the number of
+-- ENCODED_WRITE, no such number, the first wanted attribute that is missing or has a wrong length,
+-- a bad time.
 unfoldable pub command_of : ℕ → ℕ → List Attribute → Result Command Refusal
 command_of version number attributes = do
   refuse_if (is_encoded version number) Encoded
@@ -153,9 +156,10 @@ command_of version number attributes = do
 
 -- ---- a file
 
--- A command with the file that it stands in, counted from 1, its number there, counted from 1, the place of its frame's
--- first byte, the stream's version, and the place of the first byte of its attribute DATA, 0 where it has none. Only a WRITE wants
--- this attribute; any other command may have it and it is skipped.
+-- A command with the file that it stands in, counted from 1, its number there, counted from 1, the
+-- place of its frame's first byte, the stream's version, and the place of the first byte of its
+-- attribute DATA, 0 where it has none. Only a WRITE wants this attribute; any other command may
+-- have it and it is skipped.
 pub record Item : Type 0 where
   pub file : ℕ
   pub number : ℕ
@@ -189,7 +193,8 @@ place_of version kind (a ∷ rest) = if a.kind == kind then Some (attribute_head
 abbrev pub data_place : ℕ → ℕ → List Attribute → ℕ
 data_place version offset attributes = elim (place_of version DATA attributes) [ None ↦ 0 | Some place ↦ offset + frame_header_len + place ]
 
--- The command in front of the bytes, as the item of the given number at the given offset, and what follows its frame.
+-- The command in front of the bytes, as the item of the given number at the given offset, and what
+-- follows its frame.
 pub record Front : Type 0 where
   pub item : Item
   pub rest : List ℕ
@@ -265,8 +270,9 @@ abbrev pub go_on : {A : Type 0} → (A → Reading) → (Refusal → Reading) �
 go_on more stop (Ok x) = more x
 go_on more stop (Err refusal) = stop refusal
 
--- The items of the bytes from a place on, where the next command has the given number. The first number bounds how many
--- headers and commands there are; one more than the length of the bytes is always enough.
+-- The items of the bytes from a place on, where the next command has the given number. The first
+-- number bounds how many headers and commands there are; one more than the length of the bytes is
+-- always enough.
 unfoldable pub reads_from : ℕ → ℕ → Due → ℕ → ℕ → List ℕ → Reading
 reads_from zero file due number offset bytes = faulty file number offset Truncated
 reads_from (suc n) file HeaderDue number offset bytes =

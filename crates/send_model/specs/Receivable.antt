@@ -1,7 +1,8 @@
--- The receivable spelling: the one that the real `btrfs receive` takes. It stops at the first command that lacks an attribute it
--- asks for, though it never uses the value: the inode number where something is made, and the time of the last change of an inode
--- in UTIMES. Source: process_.. in send-stream.c of btrfs-progs. What stands there is this program's own: number 0, and the time
--- of the last change of the contents.
+-- The receivable spelling: the one that the real `btrfs receive` takes. It stops at the first
+-- command that lacks an attribute it asks for, though it never uses the value: the inode number
+-- where something is made, and the time of the last change of an inode in UTIMES. Source:
+-- process_.. in send-stream.c of btrfs-progs. What stands there is this program's own: number 0,
+-- and the time of the last change of the contents.
 use Rattle.std.specs.Prelude.{◌≡◌, ℕ, Bool, true, false, ◌&&◌, List, [], ◌∷◌, ◌++◌, map, nat_lt}
 use Rattle.send_model.specs.Attribute.{INO, CTIME, Number, Moment, field_bytes}
 use Rattle.send_model.specs.Command.{Command, Subvol, Snapshot, MkFile, MkDir, MkNod, MkFifo, MkSock, Symlink, Rename, Link, Unlink, Rmdir, SetXattr, RemoveXattr, Write, Clone, Truncate, Chmod, Chown, Utimes, End, UpdateExtent, Fallocate, FileAttr, row, kind_of}
@@ -52,7 +53,8 @@ abbrev pub header_before : Bool → ℕ → List ℕ
 header_before true version = stream_header version
 header_before false version = []
 
--- Items in the receivable spelling, of which the first begins a stream or does not; each stream has its own version.
+-- Items in the receivable spelling, of which the first begins a stream or does not; each stream has
+-- its own version.
 unfoldable pub exported_from : Bool → List Item → List ℕ
 exported_from begins [] = []
 exported_from begins (item ∷ items) = header_before begins item.version ++ (receivable item.version item.command ++ exported_from (is_end item.command) items)

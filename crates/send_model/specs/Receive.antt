@@ -1,5 +1,5 @@
--- Receiving files into a store: each command's step in order, up to the first refusal or fault of reading.
--- Source: the btrfs-receive manual, and do_receive in cmds/receive.c of btrfs-progs.
+-- Receiving files into a store: each command's step in order, up to the first refusal or fault of
+-- reading. Source: the btrfs-receive manual, and do_receive in cmds/receive.c of btrfs-progs.
 use Rattle.std.specs.Prelude.{◌≡◌, ℕ, List, [], ◌∷◌, Option, None, Some}
 use Rattle.send_model.specs.Refusal.{Refusal}
 use Rattle.send_model.specs.Command.{Command, Subvol, Snapshot, MkFile, MkDir, MkNod, MkFifo, MkSock, Symlink, Rename, Link, Unlink, Rmdir, SetXattr, RemoveXattr, Write, Clone, Truncate, Chmod, Chown, Utimes, End, UpdateExtent, Fallocate, FileAttr}
@@ -40,7 +40,8 @@ byte_cells item = bytes_of item.command
 abbrev pub verdict_of : Item → Refusal → Verdict
 verdict_of item refusal = record { file = item.file; command = item.number; offset = item.offset; refusal = refusal }
 
--- Where items lead: the state after the last that was taken, and the verdict on the first that was refused.
+-- Where items lead: the state after the last that was taken, and the verdict on the first that was
+-- refused.
 pub record Ran (S : Type 0) : Type 0 where
   pub state : S
   pub refused : Option Verdict

@@ -1,8 +1,9 @@
--- Why a command is refused, with the values that a refusal keeps, and the number and name of each refusal,
--- as notes print them. Faults of reading a stream's bytes are the first eight, BadTime and Encoded; Guarded is what
--- a guard answers, and NotConsecutive what compose asks of the order of parts; NotBuilt is kept for commands that are not taken,
--- of which there are none; the others are faults of what a command asks for.
--- The numbers are this program's own.
+-- Why a command is refused, with the values that a refusal keeps, and the number and name of each
+-- refusal, as notes print them. Faults of reading a stream's bytes are the first eight, BadTime and
+-- Encoded; Guarded is what a guard answers, and NotConsecutive what compose asks of the order of
+-- parts; BadText is what `pack` answers to a text; NotBuilt is kept for commands that are not
+-- taken, of which there are none; the others are faults of what a command asks for. The numbers are
+-- this program's own.
 use Rattle.std.specs.Prelude.{ℕ, List, codes}
 
 pub data Refusal : Type 0 where
@@ -42,6 +43,7 @@ pub data Refusal : Type 0 where
   BadFallocate : ℕ → Refusal
   NotConsecutive : Refusal
   NotBuilt : ℕ → Refusal
+  BadText : Refusal
   NoNumber : Refusal
 
 -- The number that a note prints.
@@ -82,6 +84,7 @@ refusal_number (Guarded _ _) = 33
 refusal_number (BadFallocate _) = 34
 refusal_number NotConsecutive = 35
 refusal_number (NotBuilt _) = 36
+refusal_number BadText = 37
 refusal_number NoNumber = 38
 
 -- The name that a note prints.
@@ -122,4 +125,5 @@ refusal_name (Guarded _ _) = codes "Guarded"
 refusal_name (BadFallocate _) = codes "BadFallocate"
 refusal_name NotConsecutive = codes "NotConsecutive"
 refusal_name (NotBuilt _) = codes "NotBuilt"
+refusal_name BadText = codes "BadText"
 refusal_name NoNumber = codes "NoNumber"

@@ -1,5 +1,6 @@
--- Commands with separators: where the real `btrfs receive` would write to a file that the path does not name any more, commands go
--- before that leave the subvolume as it is and make the receiver open another path. This program's own.
+-- Commands with separators: where the real `btrfs receive` would write to a file that the path does
+-- not name any more, commands go before that leave the subvolume as it is and make the receiver
+-- open another path. This program's own.
 use Rattle.std.specs.Prelude.{◌≡◌, ℕ, zero, suc, ◌+◌, ◌<◌, ◌^◌, Bool, true, false, not, ◌&&◌, List, [], ◌∷◌, ◌++◌, length, Option, None, Some, Ok, Err, is_some, if◌then◌else◌, codes}
 use Rattle.std.specs.Fmt.{decimal}
 use Rattle.std.specs.Str.{bytes_eq}
@@ -20,12 +21,14 @@ use Rattle.send_model.specs.Opened.{Opened, written_path, opened_after, is_astra
 abbrev pub own_name : ℕ → List ℕ
 own_name n = codes "btrsend." ++ decimal n
 
--- The first number from one on whose name the root does not have; the first number bounds how many are tried.
+-- The first number from one on whose name the root does not have; the first number bounds how many
+-- are tried.
 unfoldable pub free_from : {C : Type 0} → ℕ → ℕ → Subvolume C → List ℕ
 free_from zero n s = own_name n
 free_from (suc k) n s = if is_some (named s root (own_name n)) then free_from k (n + 1) s else own_name n
 
--- The root has no more names than the subvolume has, so one of so many numbers and one more is free.
+-- The root has no more names than the subvolume has, so one of so many numbers and one more is
+-- free.
 unfoldable pub free_name : {C : Type 0} → Subvolume C → List ℕ
 free_name s = free_from (length s.names) 0 s
 
@@ -41,7 +44,8 @@ atime_of_root s = elim (inode_at s root) [ None ↦ epoch | Some inode ↦ inode
 abbrev pub touch : List ℕ → Command
 touch path = Write path 0 []
 
--- A name in the root for the file that a path names, a WRITE of no bytes to it, and the root as it was.
+-- A name in the root for the file that a path names, a WRITE of no bytes to it, and the root as it
+-- was.
 unfoldable pub detour : {C : Type 0} → Subvolume C → List ℕ → List ℕ → List Command
 detour s name path = Link name path ∷ touch name ∷ Unlink name ∷ Utimes (mtime_of_root s) (atime_of_root s) [] ∷ []
 
@@ -141,7 +145,8 @@ FreeNameIsFree = (s : Subvolume ℕ) → IsSound s → length s.names < 2 ^ 64 �
 
 -- ---- separated commands
 
--- Where separators can go: the subvolume is sound, and the name that a detour takes is one, and free.
+-- Where separators can go: the subvolume is sound, and the name that a detour takes is one, and
+-- free.
 pub record CanSeparate (s : Subvolume ℕ) : Type 0 where
   pub sound : IsSound s
   pub split : path_names (free_name s) ≡ Some (free_name s ∷ [])
@@ -165,7 +170,8 @@ abbrev pub IsSmall : {C : Type 0} → Option (Part C) → Type 0
 IsSmall None = Unit {0}
 IsSmall (Some part) = length part.subvolume.names < 2 ^ 64
 
--- What a plain run of commands leads to, separated commands lead to, in a plain run and in the real receiver, which has no file open.
+-- What a plain run of commands leads to, separated commands lead to, in a plain run and in the real
+-- receiver, which has no file open.
 pub record IsSeparated (state end : State ℕ) (commands : List Command) : Type 0 where
   pub plain : LeadTo state (separated state commands) end
   pub received : ReceiverTakes (record { state = state; opened = None }) (separated state commands) end

@@ -1,5 +1,5 @@
--- What words say of their files, over what was read of them. Files of bytes are one source of that; files with other names for their parts
--- are another. This program's own.
+-- What words say of their files, over what was read of them. Files of bytes are one source of that;
+-- files with overrides are another. This program's own.
 use Rattle.std.specs.Prelude.{◌≡◌, ◌↔◌, ℕ, Bool, List, [], ◌∷◌, ◌++◌, take, Option, None}
 use Rattle.std.specs.Option.{option_map}
 use Rattle.send_model.specs.Reading.{Reading, Whole, input}
@@ -15,10 +15,11 @@ use Rattle.send_model.specs.Due.{Due, refused_due, or_due, DoneWhole, RefusedAt,
 use Rattle.send_model.specs.LengthLaws.{IsFirstLong}
 use Rattle.send_model.specs.Words.{Request, Compose, Audit, Dump, Export, Gen, Trial, new_guards, first_file, due, whole_of, EndSays, StandsBefore, StandsCut}
 use Rattle.send_model.specs.Thinned.{thinned, KeepsOutside, IsApart}
-use Rattle.send_model.specs.Renamed.{Names, renamed, renamed_limited}
+use Rattle.send_model.specs.Overridden.{Overrides, overridden, overridden_limited}
 
--- What is read of files: all of it, up to the first fault; which is the first file that is too long; what is read up to its limit; and
--- the bytes of the first file, for words that look at one file alone.
+-- What is read of files: all of it, up to the first fault; which is the first file that is too
+-- long; what is read up to its limit; and the bytes of the first file, for words that look at one
+-- file alone.
 pub record Sources : Type 0 where
   pub reading : Reading
   pub first_long : Option ℕ
@@ -29,12 +30,12 @@ pub record Sources : Type 0 where
 abbrev pub sources : List (List ℕ) → Sources
 sources files = record { reading = input files; first_long = too_long files; limited = limited_from 1 files; first = first_file files }
 
--- The same with other names for parts. Which file is too long does not depend on names.
-abbrev pub renamed_sources : Names → Sources → Sources
-renamed_sources names read = record {
-  reading = renamed names read.reading;
+-- The same with overrides. Which file is too long does not depend on them.
+abbrev pub overridden_sources : Overrides → Sources → Sources
+overridden_sources overrides read = record {
+  reading = overridden overrides read.reading;
   first_long = read.first_long;
-  limited = renamed_limited names read.limited;
+  limited = overridden_limited overrides read.limited;
   first = read.first;
 }
 
@@ -103,23 +104,25 @@ pub record SaysOfFiles (request : Request) (base : Store ℕ) (files : List (Lis
   pub before : (written : List ℕ) → StandsBeforeOf request base (sources files) written ↔ StandsBefore request base files written
   pub cut : (written : List ℕ) → StandsCutOf request base (sources files) written ↔ StandsCut request base files written
 
--- Without names nothing changes.
-abbrev pub NoNamesChangeNothing : Type 0
-NoNamesChangeNothing = (read : Sources) → renamed_sources [] read ≡ read
+-- Without overrides nothing changes.
+abbrev pub NoOverridesChangeNothing : Type 0
+NoOverridesChangeNothing = (read : Sources) → overridden_sources [] read ≡ read
 
--- The answer that is due to an audit of files with names is that of receiving them under its guards, where no file is too long.
-abbrev pub RenamedAuditIsReceiving : Type 0
-RenamedAuditIsReceiving = (names : Names) (guards : List GuardSpec) (store first : ℕ) (base : Store ℕ) (files : List (List ℕ)) → too_long files ≡ None
-    → due_of (Audit guards store first) base (renamed_sources names (sources files))
-    ≡ refused_due (receive_watched 0 byte_cells base (new_guards guards) (renamed names (input files))).refused
+-- The answer that is due to an audit of files with overrides is that of receiving them under its
+-- guards, where no file is too long.
+abbrev pub OverriddenAuditIsReceiving : Type 0
+OverriddenAuditIsReceiving = (overrides : Overrides) (guards : List GuardSpec) (store first : ℕ) (base : Store ℕ) (files : List (List ℕ)) → too_long files ≡ None
+    → due_of (Audit guards store first) base (overridden_sources overrides (sources files))
+    ≡ refused_due (receive_watched 0 byte_cells base (new_guards guards) (overridden overrides (input files))).refused
 
--- And where one is, it is the first refusal of what stands before the limit of the first such file; and else it names that file.
-abbrev pub RenamedAuditStopsAtLimit : Type 0
-RenamedAuditStopsAtLimit = (names : Names) (guards : List GuardSpec) (store first : ℕ) (base : Store ℕ) (files : List (List ℕ)) (n : ℕ)
+-- And where one is, it is the first refusal of what stands before the limit of the first such file;
+-- and else it names that file.
+abbrev pub OverriddenAuditStopsAtLimit : Type 0
+OverriddenAuditStopsAtLimit = (overrides : Overrides) (guards : List GuardSpec) (store first : ℕ) (base : Store ℕ) (files : List (List ℕ)) (n : ℕ)
     (long : IsFirstLong 1 n files)
     → let before : Reading = record { items = (input (long.before ++ take limit long.bytes ∷ [])).items; end = Whole } in
-    due_of (Audit guards store first) base (renamed_sources names (sources files))
-    ≡ or_due (option_map RefusedAt (receive_watched 0 byte_cells base (new_guards guards) (renamed names before)).refused) (TooLong n)
+    due_of (Audit guards store first) base (overridden_sources overrides (sources files))
+    ≡ or_due (option_map RefusedAt (receive_watched 0 byte_cells base (new_guards guards) (overridden overrides before)).refused) (TooLong n)
 
 -- What compose answers and leaves over one base is what it answers and leaves over another.
 pub record EndsAlike (base other : Store ℕ) (read : Sources) : Type 0 where

@@ -1,5 +1,6 @@
--- How commands stand in a stream as bytes: attributes, frames and the stream header, and the one spelling of a command
--- that this program writes. Source: struct btrfs_stream_header, btrfs_cmd_header and btrfs_tlv_header in send.h.
+-- How commands stand in a stream as bytes: attributes, frames and the stream header, and the one
+-- spelling of a command that this program writes. Source: struct btrfs_stream_header,
+-- btrfs_cmd_header and btrfs_tlv_header in send.h.
 use Rattle.std.specs.Prelude.{◌≡◌, ℕ, true, ◌<◌, ◌≤◌, ◌==◌, List, [], ◌∷◌, ◌++◌, length, Option, None, Some, codes, if◌then◌else◌}
 use Rattle.std.specs.List.{flat_map, AllByRecursion}
 use Rattle.std.specs.Int.{w16, w32, to_le_bytes}
@@ -46,7 +47,8 @@ AreAttributes version [] = Unit {0}
 AreAttributes version (a ∷ rest) =
     IsAttribute version a × (value_of a.kind rest ≡ None) × (takes_rest version a.kind ≡ true → rest ≡ []) × AreAttributes version rest
 
--- The checksum of a frame: over its ten header bytes, with the checksum itself taken as zero, and its body.
+-- The checksum of a frame: over its ten header bytes, with the checksum itself taken as zero, and
+-- its body.
 unfoldable pub frame_checksum : ℕ → ℕ → List ℕ → ℕ
 frame_checksum len number body = crc_of 0 (to_le_bytes w32 len ++ to_le_bytes w16 number ++ to_le_bytes w32 0 ++ body)
 
@@ -71,8 +73,9 @@ attributes_of command = with_fields (row (kind_of command)).wanted (fields_of co
 abbrev pub IsKnown : ℕ → Kind → Type 0
 IsKnown version kind = kind_of_number version (row kind).number ≡ Some kind
 
--- The bytes are one frame of a version for the command: attributes in any order, no number twice, the wanted ones there with
--- the command's values, and others that are skipped. Times have less than a second of nanoseconds.
+-- The bytes are one frame of a version for the command: attributes in any order, no number twice,
+-- the wanted ones there with the command's values, and others that are skipped. Times have less
+-- than a second of nanoseconds.
 pub record Spells (version : ℕ) (bytes : List ℕ) (command : Command) : Type 0 where
   pub known : IsKnown version (kind_of command)
   pub attributes : List Attribute
@@ -82,11 +85,13 @@ pub record Spells (version : ℕ) (bytes : List ℕ) (command : Command) : Type 
   pub wanted : AllByRecursion (λ a. value_of a.kind attributes ≡ Some a.bytes) (attributes_of command)
   pub values : FieldsFit version (row (kind_of command)).wanted (fields_of command)
 
--- The canonical spelling: the wanted attributes alone, in rising order of their numbers. So DATA is the last.
+-- The canonical spelling: the wanted attributes alone, in rising order of their numbers. So DATA is
+-- the last.
 unfoldable pub canonical : ℕ → Command → List ℕ
 canonical version command = frame_of (row (kind_of command)).number (body_of version (attributes_of command))
 
--- A command that a version can say: it has the command, its attributes have room for the values, and its body is short enough.
+-- A command that a version can say: it has the command, its attributes have room for the values,
+-- and its body is short enough.
 pub record IsSpellable (version : ℕ) (command : Command) : Type 0 where
   pub known : IsKnown version (kind_of command)
   pub values : FieldsFit version (row (kind_of command)).wanted (fields_of command)

@@ -1,5 +1,6 @@
--- A store: the subvolumes that were received, in the order in which they began, and one command's step on it.
--- Source: the btrfs-receive manual, and process_subvol, process_snapshot and process_clone in cmds/receive.c.
+-- A store: the subvolumes that were received, in the order in which they began, and one command's
+-- step on it. Source: the btrfs-receive manual, and process_subvol, process_snapshot and
+-- process_clone in cmds/receive.c.
 use Rattle.std.specs.Prelude.{◌≡◌, ℕ, ◌==◌, Bool, false, ◌&&◌, List, [], ◌∷◌, ◌++◌, Option, None, Some, Result, Ok, Err, if◌then◌else◌}
 use Rattle.std.specs.List.{list_any}
 use Rattle.std.specs.Str.{bytes_eq}
@@ -145,11 +146,13 @@ entered store head (Ok start) = record {
   refusal = None;
 }
 
--- A head completes the part before it; then it begins the new one, or is refused and there is no part.
+-- A head completes the part before it; then it begins the new one, or is refused and there is no
+-- part.
 unfoldable pub step_head : {C : Type 0} → State C → Head → Stepped C
 step_head state head = entered (completed state) head (begun (completed state) head)
 
--- The subvolume that a clone reads: the part as it is, where it names the part's own uuid, else the complete one of the key.
+-- The subvolume that a clone reads: the part as it is, where it names the part's own uuid, else the
+-- complete one of the key.
 abbrev pub clone_source : {C : Type 0} → Store C → Part C → Key → Option (Subvolume C)
 clone_source store part key = if bytes_eq key.uuid part.key.uuid then Some part.subvolume else find store key
 

@@ -1,5 +1,6 @@
--- A subvolume over any type of cell: its inodes, its names, and the number that the next inode gets. A cell is what stands
--- at one place of a file: a byte, or a byte with where it came from. Source: the btrfs-receive manual, inode(7).
+-- A subvolume over any type of cell: its inodes, its names, and the number that the next inode
+-- gets. A cell is what stands at one place of a file: a byte, or a byte with where it came from.
+-- Source: the btrfs-receive manual, inode(7).
 use Rattle.std.specs.Prelude.{◌≡◌, ◌≢◌, ℕ, zero, suc, ◌+◌, ◌<◌, ◌≤◌, ◌==◌, Bool, true, false, List, [], ◌∷◌, ◌++◌, length, Option, None, Some, Result, Ok, nat_le, IsTrue, is_some, if◌then◌else◌}
 use Rattle.std.specs.declared.cmp.Ordering.TheVariants.{Less, Equal, Greater}
 use Rattle.std.specs.Ordering.{nat_cmp}
@@ -168,7 +169,8 @@ pub record Reached : Type 0 where
   pub path : List ℕ
   pub ino : ℕ
 
--- One name further down from a path, for each name in its directory, where the path stays short enough.
+-- One name further down from a path, for each name in its directory, where the path stays short
+-- enough.
 abbrev pub one_further : Map (ℕ × List ℕ) ℕ → Reached → List Reached
 one_further [] from = []
 one_further (e ∷ names) from =
@@ -214,8 +216,8 @@ pub record IsSound {C : Type 0} (s : Subvolume C) : Type 0 where
   pub names_in_order : IsMap named_cmp s.names
   -- the root is a directory
   pub root_there : IsTrue (is_directory s root)
-  -- a name stands in a directory and leads to an inode that is there, and never to the root (which is more than a tree needs, and
-  -- kept by every edit)
+  -- a name stands in a directory and leads to an inode that is there, and never to the root (which
+  -- is more than a tree needs, and kept by every edit)
   pub in_directory : (directory : ℕ) (name : List ℕ) (ino : ℕ) → named s directory name ≡ Some ino → IsTrue (is_directory s directory)
   pub leads_somewhere : (directory : ℕ) (name : List ℕ) (ino : ℕ) → named s directory name ≡ Some ino → IsTrue (is_some (inode_at s ino))
   pub root_unnamed : (directory : ℕ) (name : List ℕ) → named s directory name ≢ Some root

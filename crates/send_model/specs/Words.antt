@@ -1,5 +1,6 @@
--- What the program's words ask for, guards among them; the one answer that is due to a request over a base, where no device fails
--- and memory is there; and what stands on standard output then. The words are this program's own.
+-- What the program's words ask for, guards among them; the one answer that is due to a request over
+-- a base, where no device fails and memory is there; and what stands on standard output then. The
+-- words are this program's own.
 use Rattle.std.specs.Prelude.{◌≡◌, ℕ, ◌+◌, Bool, ◌&&◌, List, [], ◌∷◌, Option, None, Some, codes, nat_le, if◌then◌else◌}
 use Rattle.std.specs.Str.{bytes_eq}
 use Rattle.send_model.specs.Store.{Store}
@@ -10,7 +11,8 @@ use Rattle.send_model.specs.Generated.{chain_of, trial_line}
 use Rattle.send_model.specs.Headline.{IsFrontOf, IsStopped, whole_output, IsProperFrontOf}
 use Rattle.send_model.specs.Due.{Due, DoneWhole, RefusedAt, TooLong, TooMuch, compose_due, audit_due, accepted_line, file_due}
 
--- A request. A store, a file and the first of some files are given by their places in the words, counted from 0.
+-- A request. A store, a file and the first of some files are given by their places in the words,
+-- counted from 0.
 pub data Request : Type 0 where
   Compose : (store : ℕ) (files : ℕ) → Request
   Audit : (guards : List GuardSpec) (store : ℕ) (files : ℕ) → Request
@@ -29,7 +31,8 @@ store_and_files request at (store ∷ file ∷ files) = Some (request at (at + 1
 store_and_files request at (store ∷ []) = None
 store_and_files request at [] = None
 
--- Guard words, and behind them a store and files: the first word that does not begin as a guard's is the store.
+-- Guard words, and behind them a store and files: the first word that does not begin as a guard's
+-- is the store.
 abbrev pub with_guard : GuardSpec → Request → Request
 with_guard guard (Audit guards store files) = Audit (guard ∷ guards) store files
 with_guard guard (Compose store files) = Compose store files
@@ -69,8 +72,8 @@ count_and_seed request (count ∷ seed ∷ more ∷ words) = None
 count_and_seed request (count ∷ []) = None
 count_and_seed request [] = None
 
--- `compose STORE FILE..`, `audit [GUARD..] STORE FILE..`, `export STORE FILE..`, `dump FILE`, `gen COUNT SEED` and
--- `trial COUNT SEED`; no other words mean anything.
+-- `compose STORE FILE..`, `audit [GUARD..] STORE FILE..`, `export STORE FILE..`, `dump FILE`, `gen
+-- COUNT SEED` and `trial COUNT SEED`; no other words mean anything.
 unfoldable pub request_of : List (List ℕ) → Option Request
 request_of [] = None
 request_of (word ∷ words) =
@@ -92,8 +95,9 @@ abbrev pub first_file : List (List ℕ) → List ℕ
 first_file [] = []
 first_file (bytes ∷ files) = bytes
 
--- The answer that is due to a request, over a base, for the bytes of the files that it names. The base is the store without the
--- files' own parts for compose, and the store itself for audit and export. Export refuses what audit refuses.
+-- The answer that is due to a request, over a base, for the bytes of the files that it names. The
+-- base is the store without the files' own parts for compose, and the store itself for audit and
+-- export. Export refuses what audit refuses.
 unfoldable pub due : Request → Store ℕ → List (List ℕ) → Due
 due (Compose store at) base files = compose_due base files
 due (Audit guards store at) base files = audit_due base (new_guards guards) files
@@ -111,8 +115,8 @@ whole_of (Export store at) base files = exported base files
 whole_of (Gen count seed) base files = chain_of seed count
 whole_of (Trial count seed) base files = trial_line seed count
 
--- What stands on standard output before the end of the answer: of compose what is no whole stream, of audit nothing, of the
--- others a front part.
+-- What stands on standard output before the end of the answer: of compose what is no whole stream,
+-- of audit nothing, of the others a front part.
 abbrev pub StandsBefore : Request → Store ℕ → List (List ℕ) → List ℕ → Type 0
 StandsBefore (Compose store at) base files written = IsStopped base files written
 StandsBefore (Audit guards store at) base files written = written ≡ []
@@ -130,7 +134,8 @@ StandsRefused (Export store at) base files written = written ≡ exported base f
 StandsRefused (Gen count seed) base files written = ⊥
 StandsRefused (Trial count seed) base files written = ⊥
 
--- What stands there where standard output itself failed. Audit writes where all is accepted, and only then; its line was cut short.
+-- What stands there where standard output itself failed. Audit writes where all is accepted, and
+-- only then; its line was cut short.
 abbrev pub StandsCut : Request → Store ℕ → List (List ℕ) → List ℕ → Type 0
 StandsCut (Compose store at) base files written = IsStopped base files written
 StandsCut (Audit guards store at) base files written = (audit_due base (new_guards guards) files ≡ DoneWhole) × IsProperFrontOf (accepted_line files) written

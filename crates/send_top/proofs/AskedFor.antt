@@ -3,7 +3,7 @@ use Rattle.std.specs.Prelude.{◌≡◌, ℕ, true, List, Option, None, Some}
 use Rattle.std.proofs.Common.{refl, sym, ap, subst, ◌∙◌}
 use Rattle.send_model.specs.Guards.{Guard}
 use Rattle.send_model.specs.Words.{new_guards}
-use Rattle.word_model.specs.AllRequests.{Request, request_of}
+use Rattle.program_model.specs.AllRequests.{Request, request_of}
 use Rattle.send_top.specs.Requests.{Asks, specs_of, store_meant, uses_store}
 use Rattle.send_top.specs.declared.words.StoreRequest.{StoreRequest}
 use Rattle.send_top.specs.declared.words.StoreRequest.TheVariants as of_store

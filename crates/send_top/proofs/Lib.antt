@@ -13,3 +13,9 @@ pub mod NothingDone
 pub mod SentAnew
 pub mod TurnsRead
 mod NothingRead
+pub mod FlatAsks
+pub mod FlatStatuses
+pub mod FlatAnswers
+pub mod FlatClauses
+pub mod CrashesLeave
+pub mod MadeEnds

@@ -11,7 +11,8 @@ use Rattle.sx_base.specs.Outside.{AppendsPart}
 use Rattle.sx_base.proofs.EscapedSteps.{escaped_step, escaped_end}
 use Rattle.send_top.specs.Answered.{HandedOn}
 
--- Some of the note was written, and a line stands behind it; the bytes from a place on are still to be escaped.
+-- Some of the note was written, and a line stands behind it; the bytes from a place on are still to
+-- be escaped.
 pub record IsNoted (what line : List ℕ) (place : ℕ) (old now : Option (List ℕ)) : Type 0 where
   pub written : List ℕ
   pub wrote : Appends old now written

@@ -42,4 +42,5 @@ short_name (meant.Guarded guard used) = omega arith
 short_name (meant.BadFallocate mode) = omega arith
 short_name meant.NotConsecutive = omega arith
 short_name (meant.NotBuilt kept) = omega arith
+short_name meant.BadText = omega arith
 short_name meant.NoNumber = omega arith

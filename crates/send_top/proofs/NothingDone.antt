@@ -1,4 +1,5 @@
--- Where there was no memory for the names of a request over a store nothing was done: what is said of that.
+-- Where there was no memory for the names of a request over a store nothing was done: what is said
+-- of that.
 use Rattle.std.specs.Prelude.{◌≡◌, ℕ, ◌<◌, List, [], ◌∷◌, ◌++◌, length, Option, Some}
 use Rattle.std.proofs.Common.{⊎_elim, inl, refl, arith}
 use Rattle.std.proofs.KnownBytes.{Appends-nil}
@@ -11,12 +12,12 @@ use Rattle.store_model.specs.Requests as stored
 use Rattle.store_model.specs.Requests.{InitStore, DropEntry, ShowEntry, CatFile, word_at, at_entry}
 use Rattle.store_model.specs.Answers.{OfAnyWord, StandsBefore}
 use Rattle.store_model.proofs.AnswerLaws.{nothing_stands_before}
-use Rattle.sent_model.specs.HeldStores.{Form, SendBefore, formed}
-use Rattle.sent_model.specs.Promises.{IsUnfinished}
-use Rattle.sent_model.specs.Restored.{restored_stream}
-use Rattle.sent_model.specs.Sent.{sent_stream, sent_version}
-use Rattle.word_model.specs.AllRequests.{Request, name_at}
-use Rattle.word_model.specs.AllAnswers.{Answers}
+use Rattle.snapshot_model.specs.HeldStores.{Form, SendBefore, formed}
+use Rattle.snapshot_model.specs.Promises.{IsUnfinished}
+use Rattle.snapshot_model.specs.Restored.{restored_stream}
+use Rattle.snapshot_model.specs.Sent.{sent_stream, sent_version}
+use Rattle.program_model.specs.AllRequests.{Request, name_at}
+use Rattle.program_model.specs.AllAnswers.{Answers}
 use Rattle.sx_base.specs.Calls.{Wrote}
 use Rattle.sx_base.specs.Crash.{LeavesOnly}
 use Rattle.sx_base.specs.Disk.{Pending, IsImage}

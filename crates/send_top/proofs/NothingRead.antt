@@ -3,10 +3,10 @@ use Rattle.std.specs.Prelude.{ℕ, List, [], ◌∷◌, map, drop, Option}
 use Rattle.std.proofs.Common.{refl}
 use Rattle.send_model.specs.Words as streams
 use Rattle.send_model.specs.Words.{Compose, Audit, Dump, Export, Gen, Trial}
-use Rattle.word_model.specs.NameWords.{files_in}
+use Rattle.program_model.specs.FileWords.{files_in}
 use Rattle.store_model.specs.Requests as stored
 use Rattle.store_model.specs.Requests.{OfStreams, InitStore, DropEntry, ReceiveFiles, ListStore, ShowEntry, CatFile, ScrubStore, word_at}
-use Rattle.word_model.specs.AllRequests.{Request, OfStore, SendEntry, RestoreEntry, TakeTurns}
+use Rattle.program_model.specs.AllRequests.{Request, OfStore, SendEntry, RestoreEntry, TakeTurns}
 use Rattle.sx_base.specs.Later.{AskedOnly}
 use Rattle.sx_base.specs.Asks.{AreReadOnce, AreReadTwice}
 use Rattle.sx_base.proofs.Asking.{asked_nothing, once_none, turn_none}

@@ -8,8 +8,8 @@ use Rattle.send_model.specs.Words.{Compose, Dump, Export, Gen, Trial, is_word, s
 use Rattle.send_model.proofs.Stores.{bytes_eq_true}
 use Rattle.store_model.specs.Requests.{Request, InitStore, DropEntry, ListStore, ShowEntry, CatFile, ScrubStore, of_one, of_two, of_three, as_receive, over_store, or_over_store}
 use Rattle.store_model.specs.Requests as stored
-use Rattle.word_model.specs.AllRequests as all
-use Rattle.word_model.specs.AllRequests.{SendEntry, RestoreEntry, store_and_name, of_turns, of_subvolumes, or_of_subvolumes, request_read}
+use Rattle.program_model.specs.AllRequests as all
+use Rattle.program_model.specs.AllRequests.{SendEntry, RestoreEntry, store_and_name, of_turns, of_subvolumes, or_of_subvolumes, request_read}
 
 differ : (xs ys : List ℕ) → (xs ≡ ys → ⊥) → bytes_eq xs ys ≡ false
 differ xs ys other = one (bytes_eq xs ys) refl

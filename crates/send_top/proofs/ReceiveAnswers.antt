@@ -4,7 +4,7 @@ use Rattle.std.proofs.Common.{⊎_elim, subst}
 use Rattle.send_model.specs.Guards.{GuardSpec}
 use Rattle.store_model.specs.NamedFiles.{NamedFiles}
 use Rattle.store_model.specs.Requests.{InitStore, ReceiveFiles}
-use Rattle.word_model.specs.AllRequests.{Request, OfStore, SendEntry, RestoreEntry, TakeTurns, TurnFiles}
+use Rattle.program_model.specs.AllRequests.{Request, OfStore, SendEntry, RestoreEntry, TakeTurns, TurnFiles}
 use Rattle.store_model.specs.Answers.{StandsBefore}
 use Rattle.store_model.proofs.AnswerLaws.{nothing_stands_before}
 use Rattle.sx_base.specs.Calls.{IfAllTold}

@@ -1,4 +1,5 @@
--- A subvolume that is sent or restored is made anew by what was written; and what is answered of the bytes that its word means.
+-- A subvolume that is sent or restored is made anew by what was written; and what is answered of
+-- the bytes that its word means.
 use Rattle.std.specs.Prelude.{◌≡◌, ◌≢◌, ℕ, [], List, Option}
 use Rattle.std.proofs.Common.{sym, ap, subst, ◌∙◌, inl, inr}
 use Rattle.send_model.specs.Answer.{Done}
@@ -7,13 +8,13 @@ use Rattle.store_model.specs.NamedFiles.{unnamed}
 use Rattle.sx_base.specs.Calls.{Wrote}
 use Rattle.sx_base.specs.declared.outcome.Outcome.TheVariants as ended
 use Rattle.store_model.specs.Answers.{Answer, OfAnyWord}
-use Rattle.sent_model.specs.HeldStores.{Form, SendAnswers}
-use Rattle.sent_model.specs.Promises.{IsUnfinished}
-use Rattle.store_words.specs.Ending as ending
-use Rattle.store_words.specs.declared.ends.StoreEnd.{StoreEnd}
-use Rattle.store_words.specs.declared.ends.StoreEnd.TheVariants as made
-use Rattle.word_model.specs.AllRequests.{SendEntry, RestoreEntry}
-use Rattle.word_model.proofs.Anew.{sent_is_received_anew, restored_is_received_anew}
+use Rattle.snapshot_model.specs.HeldStores.{Form, SendAnswers}
+use Rattle.snapshot_model.specs.Promises.{IsUnfinished}
+use Rattle.store_commands.specs.Ending as ending
+use Rattle.store_commands.specs.declared.ends.StoreEnd.{StoreEnd}
+use Rattle.store_commands.specs.declared.ends.StoreEnd.TheVariants as made
+use Rattle.program_model.specs.AllRequests.{SendEntry, RestoreEntry}
+use Rattle.program_model.proofs.Anew.{sent_is_received_anew, restored_is_received_anew}
 use Rattle.send_top.specs.Run.{IsAnswered, Sends, outside}
 
 pub sends : (told : Option (List (List ℕ × List ℕ))) (tells : Type 0) (words : List (List ℕ)) (guards : List Guard) (old new : Option (List ℕ)) (image left : List ℕ)

@@ -5,7 +5,7 @@ use Rattle.send_model.specs.Answer.{Done, Refused, NoMemory}
 use Rattle.send_model.specs.Due.{DoneWhole, RefusedAt, TooLong}
 use Rattle.send_model.specs.Due as dues
 use Rattle.send_model.specs.Reading as meant
-use Rattle.send_model.specs.Renamed.{Names}
+use Rattle.send_model.specs.Overridden.{Overrides}
 use Rattle.send_model.specs.Sources.{due_of, EndSaysOf}
 use Rattle.send_model.specs.Store.{Store}
 use Rattle.send_model.specs.Words.{Request}
@@ -17,22 +17,23 @@ use Rattle.sx_base.specs.declared.outcome.Outcome.{Outcome}
 use Rattle.sx_base.specs.declared.outcome.Outcome.TheVariants as ended
 use Rattle.sx_base.specs.declared.outcome.Verdict.{Verdict}
 use Rattle.store_model.specs.Dues as store_dues
+use Rattle.store_model.specs.Meanings.{IsOver}
 use Rattle.store_model.specs.Stored.{StandsFor}
 use Rattle.store_model.specs.NamedFiles.{NamedFiles, read_of}
 use Rattle.store_model.specs.Requests.{OfStreams, InitStore, store_of, reads_store, IsStreamsDue, StreamsSay, at_entry}
-use Rattle.store_model.specs.Answers.{Answer, OfAnyWord, Answers, StandsBefore, StreamsBefore, StreamsCut}
+use Rattle.store_model.specs.Answers.{StreamsInput, Answer, OfAnyWord, Answers, StandsBefore, StreamsBefore, StreamsCut}
 use Rattle.store_model.proofs.AnswerLaws.{nothing_stands_before}
-use Rattle.word_model.specs.AllRequests.{OfStore}
-use Rattle.word_model.specs.NameWords.{files_in, names_in}
-use Rattle.part_names.specs.Naming.{sources_named, EndsOf}
-use Rattle.store_words.specs.declared.ends.StoreEnd.{StoreEnd}
-use Rattle.store_words.specs.declared.ends.StoreEnd.TheVariants as made
-use Rattle.store_words.specs.Ending as ending
-use Rattle.store_words.specs.Ending.{outcome_meant}
-use Rattle.store_words.proofs.StreamAnswers.{then_told}
-use Rattle.send_top.specs.Requests.{named_files, streams_names, streams_part_names}
-use Rattle.store_base.specs.Ending.{ChangeFound}
-use Rattle.send_top.specs.Run.{IfAllRead, OfDisk, IsChangedIn, IsOver, WroteOver, outside}
+use Rattle.program_model.specs.AllRequests.{OfStore}
+use Rattle.program_model.specs.FileWords.{files_in, overrides_in}
+use Rattle.part_names.specs.Overriding.{sources_with, EndsOf}
+use Rattle.store_commands.specs.declared.ends.StoreEnd.{StoreEnd}
+use Rattle.store_commands.specs.declared.ends.StoreEnd.TheVariants as made
+use Rattle.store_commands.specs.Ending as ending
+use Rattle.store_commands.specs.Ending.{outcome_meant}
+use Rattle.store_commands.proofs.StreamAnswers.{then_told}
+use Rattle.send_top.specs.Requests.{named_files, streams_names, streams_overrides}
+use Rattle.store_compose.specs.Ending.{ChangeFound}
+use Rattle.send_top.specs.Run.{IfAllRead, OfDisk, IsChangedIn, WroteOver, outside}
 use Rattle.send_top.proofs.ReceiveAnswers.{all_read}
 
 -- ---- over no store
@@ -51,8 +52,8 @@ module _ (request : Request) (words : List (List ℕ)) (image : List ℕ) (files
   over_none (ended.Refused verdict) (is, says) = decided (RefusedAt (verdict_meant verdict)) is says
   over_none (ended.InputTooLong file) (is, says) = decided (TooLong file) is says
   over_none (ended.TooMuch sum) (is, says) = decided (dues.TooMuch sum) is says
-  over_none ended.InputFault before = (tt, (refl, subst (λ (b : Bool). StreamsBefore b request image (read_of files) written) (sym none) before))
-  over_none (ended.InputChanged file place) before = (tt, (refl, subst (λ (b : Bool). StreamsBefore b request image (read_of files) written) (sym none) before))
+  over_none ended.InputFault before = (tt, (refl, subst (λ (b : Bool). StreamsInput b request image (read_of files) written) (sym none) before))
+  over_none (ended.InputChanged file place) before = (tt, (refl, subst (λ (b : Bool). StreamsInput b request image (read_of files) written) (sym none) before))
   over_none ended.OutputFault cut = (refl, subst (λ (b : Bool). StreamsCut b request image (read_of files) written) (sym none) cut)
   over_none ended.NoMemory before = (refl, subst (λ (b : Bool). StreamsBefore b request image (read_of files) written) (sym none) before)
 
@@ -70,12 +71,12 @@ of_disk tells false P holds = holds
 
 pub unread_store : (tells : Type 0) (told : Option (List (List ℕ × List ℕ))) (words : List (List ℕ)) (request : Request) (old new : Option (List ℕ)) (image : List ℕ) (outcome : Outcome)
     → reads_store words (store_of request) ≡ false
-    → IfAllRead told (streams_names request words) (λ files. Wrote old new (EndsOf request [] (sources_named (streams_part_names request words) files) outcome))
+    → IfAllRead told (streams_names request words) (λ files. Wrote old new (EndsOf request [] (sources_with (streams_overrides request words) files) outcome))
     → OfDisk tells (reads_store words (store_of request)) (IfAllRead told (streams_names request words)
     (λ files. Wrote old new (λ written. Answers (OfStreams request) (at_entry words image (named_files (OfStore (OfStreams request)) words files)) (OfAnyWord (outcome_meant outcome)) written image)))
 unread_store tells told words request old new image outcome none ends =
     of_disk tells (reads_store words (store_of request)) _
-    (then_read told (streams_names request words) (λ files. Wrote old new (EndsOf request [] (sources_named (streams_part_names request words) files) outcome))
+    (then_read told (streams_names request words) (λ files. Wrote old new (EndsOf request [] (sources_with (streams_overrides request words) files) outcome))
     (λ files. Wrote old new (λ written. Answers (OfStreams request) (at_entry words image (named_files (OfStore (OfStreams request)) words files)) (OfAnyWord (outcome_meant outcome)) written image))
     (λ files w. (w.0, w.1, over_none request words image (named_files (OfStore (OfStreams request)) words files) w.0 none outcome w.2)) ends)
 
@@ -174,19 +175,19 @@ outcome_refused ended.OutputFault verdict e = cc
 outcome_refused ended.NoMemory verdict e = cc
 
 -- What is said of what was written, over the store that is read and over none.
-module _ (P : Store ℕ → Names → List (List ℕ) → List ℕ → Type 0) (told : Option (List (List ℕ × List ℕ))) (tells : Type 0) (words : List (List ℕ)) (image : List ℕ) (old new : Option (List ℕ)) (store at : ℕ) where
+module _ (P : Store ℕ → Overrides → List (List ℕ) → List ℕ → Type 0) (told : Option (List (List ℕ × List ℕ))) (tells : Type 0) (words : List (List ℕ)) (image : List ℕ) (old new : Option (List ℕ)) (store at : ℕ) where
   abbrev WroteBy : Bool → Type 0
-  WroteBy reads = OfDisk tells reads (IfAllTold told (files_in (drop at words)) (λ files. Wrote old new (λ written. (s : Store ℕ) → IsOver reads image s → P s (names_in (drop at words)) files written)))
+  WroteBy reads = OfDisk tells reads (IfAllTold told (files_in (drop at words)) (λ files. Wrote old new (λ written. (s : Store ℕ) → IsOver reads image s → P s (overrides_in (drop at words)) files written)))
 
   pub wrote_over : reads_store words (Some store) ≡ true
-      → (tells → IfAllTold told (files_in (drop at words)) (λ files. Wrote old new (λ written. (s : Store ℕ) → StandsFor image s → P s (names_in (drop at words)) files written)))
+      → (tells → IfAllTold told (files_in (drop at words)) (λ files. Wrote old new (λ written. (s : Store ℕ) → StandsFor image s → P s (overrides_in (drop at words)) files written)))
       → WroteOver P tells words (outside told image old new) store at
   wrote_over reads holds = subst WroteBy (sym reads) holds
 
-  pub wrote_alone : reads_store words (Some store) ≡ false → IfAllTold told (files_in (drop at words)) (λ files. Wrote old new (P [] (names_in (drop at words)) files))
+  pub wrote_alone : reads_store words (Some store) ≡ false → IfAllTold told (files_in (drop at words)) (λ files. Wrote old new (P [] (overrides_in (drop at words)) files))
       → WroteOver P tells words (outside told image old new) store at
   wrote_alone none holds =
       subst WroteBy (sym none)
-      (then_told told (files_in (drop at words)) (λ files. Wrote old new (P [] (names_in (drop at words)) files))
-      (λ files. Wrote old new (λ written. (s : Store ℕ) → s ≡ [] → P s (names_in (drop at words)) files written))
-      (λ files w. (w.0, w.1, λ s is. subst (λ (t : Store ℕ). P t (names_in (drop at words)) files w.0) (sym is) w.2)) holds)
+      (then_told told (files_in (drop at words)) (λ files. Wrote old new (P [] (overrides_in (drop at words)) files))
+      (λ files. Wrote old new (λ written. (s : Store ℕ) → s ≡ [] → P s (overrides_in (drop at words)) files written))
+      (λ files w. (w.0, w.1, λ s is. subst (λ (t : Store ℕ). P t (overrides_in (drop at words)) files w.0) (sym is) w.2)) holds)

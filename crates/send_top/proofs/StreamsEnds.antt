@@ -2,22 +2,22 @@
 use Rattle.std.specs.Prelude.{◌≡◌, ◌≢◌, ℕ, List, [], ◌∷◌, drop, slice_index_or, Option, Result, Ok, Err, IfOk}
 use Rattle.std.proofs.Common.{refl, sym, ap, subst, ◌∙◌, arith}
 use Rattle.send_model.specs.Guards.{GuardSpec, Guard}
-use Rattle.send_model.specs.Renamed.{Names}
+use Rattle.send_model.specs.Overridden.{Overrides}
 use Rattle.send_model.specs.Due.{DoneWhole, RefusedAt, TooLong, TooMuch}
 use Rattle.send_model.specs.Sources.{Sources, sources, SaysOfFiles}
 use Rattle.send_model.specs.Store.{Store}
-use Rattle.send_model.proofs.SourceLaws.{says_of_files, no_names_change_nothing}
+use Rattle.send_model.proofs.SourceLaws.{says_of_files, no_overrides_change_nothing}
 use Rattle.sx_base.specs.Refusals.{verdict_meant}
 use Rattle.send_model.specs.Words.{Request, Compose, Audit, Dump, Export, new_guards, due, whole_of}
 use Rattle.sx_base.specs.Calls.{IfAllTold, Wrote, Ends, Caused}
 use Rattle.sx_base.specs.declared.outcome.Outcome.{Outcome}
 use Rattle.sx_base.specs.declared.outcome.Outcome.TheVariants as ended
 use Rattle.sx_base.specs.declared.outcome.Verdict.{Verdict}
-use Rattle.part_names.specs.Naming.{sources_named, EndsOf}
+use Rattle.part_names.specs.Overriding.{sources_with, EndsOf}
 use Rattle.auditor.specs.Answers.{AuditEnds}
 use Rattle.composer.specs.Files as composing
-use Rattle.store_words.proofs.StreamAnswers.{compose_ends, audit_ends, export_ends, then_told}
-use Rattle.word_model.specs.NameWords.{GivenFiles, files_of, names_of, files_in, names_in}
+use Rattle.store_commands.proofs.StreamAnswers.{compose_ends, audit_ends, export_ends, then_told}
+use Rattle.program_model.specs.FileWords.{GivenFiles, files_of, overrides_of, files_in, overrides_in}
 use Rattle.send_top.specs.Requests.{IsGivenAt}
 use Rattle.send_top.specs.Run.{IfAllRead, IsComposedFor, IsFrontFor}
 
@@ -25,7 +25,7 @@ use Rattle.send_top.specs.Run.{IfAllRead, IsComposedFor, IsFrontFor}
 pub of_names : (told : Option (List (List ℕ × List ℕ))) (names others : List (List ℕ)) (P : List (List ℕ) → Type 0) → names ≡ others → IfAllTold told names P → IfAllTold told others P
 of_names told names others P same holds = subst (λ (ns : List (List ℕ)). IfAllTold told ns P) same holds
 
-module _ (old new : Option (List ℕ)) (names : Names) (files : List (List ℕ)) where
+module _ (old new : Option (List ℕ)) (names : Overrides) (files : List (List ℕ)) where
   -- The headline holds where all was done.
   pub headline : (outcome : Outcome) → outcome ≡ ended.Done → Wrote old new (composing.ComposeEnds [] names files outcome) → Wrote old new (IsComposedFor [] names files)
   headline outcome e w = (w.0, w.1, w.2.composed e)
@@ -35,15 +35,15 @@ module _ (old new : Option (List ℕ)) (names : Names) (files : List (List ℕ))
   composed_front outcome verdict e w = (w.0, w.1, w.2.refused verdict e)
 
   -- The answer is the one that is due. The places of the store and the files play no part in it.
-  pub composed_ends : (store at : ℕ) (outcome : Outcome) → Wrote old new (composing.ComposeEnds [] names files outcome) → Wrote old new (λ written. EndsOf (Compose store at) [] (sources_named names files) outcome written)
-  composed_ends store at outcome w = (w.0, w.1, compose_ends [] w.0 store at (sources_named names files) outcome w.2.ends)
+  pub composed_ends : (store at : ℕ) (outcome : Outcome) → Wrote old new (composing.ComposeEnds [] names files outcome) → Wrote old new (λ written. EndsOf (Compose store at) [] (sources_with names files) outcome written)
+  composed_ends store at outcome w = (w.0, w.1, compose_ends [] w.0 store at (sources_with names files) outcome w.2.ends)
 
   pub audits : (guards : List Guard) (specs : List GuardSpec) (store at : ℕ) (outcome : Outcome) → guards ≡ new_guards specs
-      → Wrote old new (AuditEnds [] guards names files outcome) → Wrote old new (λ written. EndsOf (Audit specs store at) [] (sources_named names files) outcome written)
+      → Wrote old new (AuditEnds [] guards names files outcome) → Wrote old new (λ written. EndsOf (Audit specs store at) [] (sources_with names files) outcome written)
   audits guards specs store at outcome fits w = (w.0, w.1, audit_ends [] w.0 store at names files specs outcome (subst (λ (gs : List Guard). AuditEnds [] gs names files outcome w.0) fits w.2))
 
-  pub exports : (store at : ℕ) (outcome : Outcome) → Wrote old new (λ written. EndsOf (Export 0 0) [] (sources_named names files) outcome written) → Wrote old new (λ written. EndsOf (Export store at) [] (sources_named names files) outcome written)
-  exports store at outcome w = (w.0, w.1, export_ends [] w.0 store at (sources_named names files) outcome w.2)
+  pub exports : (store at : ℕ) (outcome : Outcome) → Wrote old new (λ written. EndsOf (Export 0 0) [] (sources_with names files) outcome written) → Wrote old new (λ written. EndsOf (Export store at) [] (sources_with names files) outcome written)
+  exports store at outcome w = (w.0, w.1, export_ends [] w.0 store at (sources_with names files) outcome w.2)
 
 -- How a request ends over files ends it over what was read of them.
 module _ (request : Request) (base : Store ℕ) (files : List (List ℕ)) (written : List ℕ) where
@@ -60,12 +60,12 @@ module _ (request : Request) (base : Store ℕ) (files : List (List ℕ)) (writt
   of_read ended.OutputFault cut = (law.cut written).1 cut
   of_read ended.NoMemory before = (law.before written).1 before
 
-  pub ends_unnamed : (outcome : Outcome) → Ends request base files outcome written → EndsOf request base (sources_named [] files) outcome written
-  ends_unnamed outcome w = subst (λ (read : Sources). EndsOf request base read outcome written) (sym (no_names_change_nothing (sources files))) (of_read outcome w)
+  pub ends_unnamed : (outcome : Outcome) → Ends request base files outcome written → EndsOf request base (sources_with [] files) outcome written
+  ends_unnamed outcome w = subst (λ (read : Sources). EndsOf request base read outcome written) (sym (no_overrides_change_nothing (sources files))) (of_read outcome w)
 
 -- Of files whose parts keep their names.
 module _ (old new : Option (List ℕ)) (files : List (List ℕ)) where
-  pub unnamed_ends : (request : Request) (outcome : Outcome) → Wrote old new (λ written. Ends request [] files outcome written) → Wrote old new (λ written. EndsOf request [] (sources_named [] files) outcome written)
+  pub unnamed_ends : (request : Request) (outcome : Outcome) → Wrote old new (λ written. Ends request [] files outcome written) → Wrote old new (λ written. EndsOf request [] (sources_with [] files) outcome written)
   unnamed_ends request outcome w = (w.0, w.1, ends_unnamed request [] files w.0 outcome w.2)
 
   pub dumps : (at : ℕ) (outcome : Outcome) → Wrote old new (λ written. Ends (Dump 1) [] files outcome written) → Wrote old new (λ written. Ends (Dump at) [] files outcome written)
@@ -89,10 +89,10 @@ pub of_one_file : (asked : ℕ → Request)
     → ((old new : Option (List ℕ)) (files : List (List ℕ)) (at : ℕ) (outcome : Outcome) → Wrote old new (λ written. Ends (asked 1) [] files outcome written) → Wrote old new (λ written. Ends (asked at) [] files outcome written))
     → (told : Option (List (List ℕ × List ℕ))) (name : List ℕ) (words : List (List ℕ)) (at : ℕ) (old new : Option (List ℕ)) (outcome : Outcome) → name ≡ slice_index_or words at []
     → IfAllTold told (name ∷ []) (λ files. Wrote old new (λ written. Ends (asked 1) [] files outcome written))
-    → IfAllTold told (slice_index_or words at [] ∷ []) (λ files. Wrote old new (λ written. EndsOf (asked at) [] (sources_named [] files) outcome written))
+    → IfAllTold told (slice_index_or words at [] ∷ []) (λ files. Wrote old new (λ written. EndsOf (asked at) [] (sources_with [] files) outcome written))
 of_one_file asked moves told name words at old new outcome is =
     following told (name ∷ []) (slice_index_or words at [] ∷ []) (λ files. Wrote old new (λ written. Ends (asked 1) [] files outcome written))
-    (λ files. Wrote old new (λ written. EndsOf (asked at) [] (sources_named [] files) outcome written))
+    (λ files. Wrote old new (λ written. EndsOf (asked at) [] (sources_with [] files) outcome written))
     (ap (λ (w : List ℕ). w ∷ []) is) (λ files w. unnamed_ends old new files (asked at) outcome (moves old new files at outcome w))
 
 -- Files with names that are told are read.
@@ -119,8 +119,8 @@ then_any R (Err e) holds = tt
 pub given_files : (place : ℕ) (words : List (List ℕ)) (given : GivenFiles) → IsGivenAt place words given → given.files ≡ files_in (drop place words)
 given_files place words given is = sym (ap files_of is.is)
 
-pub given_names : (place : ℕ) (words : List (List ℕ)) (given : GivenFiles) → IsGivenAt place words given → given.names ≡ names_in (drop place words)
-given_names place words given is = sym (ap names_of is.is)
+pub given_names : (place : ℕ) (words : List (List ℕ)) (given : GivenFiles) → IsGivenAt place words given → given.overrides ≡ overrides_in (drop place words)
+given_names place words given is = sym (ap overrides_of is.is)
 
 -- The files of a request are those of an equal one.
 pub files_of_compose : (store at other place : ℕ) → Compose store at ≡ Compose other place → at ≡ place

@@ -7,8 +7,8 @@ use Rattle.std.proofs.lemmas.Bool.{le-leb}
 use Rattle.store_model.specs.Requests.{word_at}
 use Rattle.store_model.specs.Turns.{schedule_of}
 use Rattle.send_model.proofs.Sorts.{same_inside}
-use Rattle.word_model.specs.AllRequests.{Request, TakeTurns, TurnFiles, turn_files, are_turns, with_schedule, of_turns}
-use Rattle.word_model.proofs.TurnGuards.{is_scheduled, are_places}
+use Rattle.program_model.specs.AllRequests.{Request, TakeTurns, TurnFiles, turn_files, are_turns, with_schedule, of_turns}
+use Rattle.program_model.proofs.TurnGuards.{is_scheduled, are_places}
 use Rattle.send_top.specs.Requests.{turns_in, places_in}
 
 pub short_turns : (words : List (List ℕ)) → length words < 4 → None ≡ of_turns (drop 1 words)

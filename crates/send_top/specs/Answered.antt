@@ -4,7 +4,7 @@ use Rattle.std.specs.Io.KnownBytes.{Appends}
 use Rattle.send_model.specs.Answer.{Usage}
 use Rattle.store_model.specs.Answers as meant
 use Rattle.store_model.specs.Answers.{OfAnyWord, StoreFault, NotStore, Missing, LogFull, StoreThere, Damaged, status_of, note_of}
-use Rattle.store_words.specs.Ending.{outcome_meant}
+use Rattle.store_commands.specs.Ending.{outcome_meant}
 use Rattle.sx_base.specs.Causes.{Rose}
 use Rattle.sx_base.specs.Outside.{AppendsPart}
 use Rattle.send_top.specs.declared.noting.Answer.{Answer}
@@ -34,8 +34,8 @@ HasShortNote (Damaged group stored computed) = ⊤
 abbrev pub HandedOn : (before after : List ℕ) → (old new : Option (List ℕ)) → Type 0
 HandedOn before after old new = (written : List ℕ) × Appends old new written × (written ++ after ≡ before)
 
--- What a run gave of an answer: its exit status, and in the notes its whole note, or a proper prefix of it where their count
--- of faults rose.
+-- What a run gave of an answer: its exit status, and in the notes its whole note, or a proper
+-- prefix of it where their count of faults rose.
 pub record IsGiven (answer : meant.Answer) (old new : Option (List ℕ)) (before now : ℕ) (status : ℕ) : Type 0 where
   pub status_is : status ≡ status_of answer
   pub note : Appends old new (note_of answer) ⊎ AppendsPart old new (note_of answer) × Rose before now

@@ -1,12 +1,13 @@
--- What words that ask for something mean, as the calls that do it are given them. This program's own.
+-- What words that ask for something mean, as the calls that do it are given them. This program's
+-- own.
 use Rattle.std.specs.Prelude.{ℕ, List, map, drop}
 use Rattle.std.specs.String.{string_bytes}
 use Rattle.send_model.specs.Guards.{GuardSpec}
 use Rattle.send_model.specs.Words as streams
 use Rattle.send_model.specs.Words.{new_guards}
 use Rattle.store_model.specs.Requests.{word_at}
-use Rattle.turn_model.specs.TurnDues.{InTurns, in_turns}
-use Rattle.word_model.specs.AllRequests.{TurnFiles}
+use Rattle.store_model.specs.TurnDues.{InTurns, in_turns}
+use Rattle.program_model.specs.AllRequests.{TurnFiles}
 use Rattle.send_top.specs.Requests.{before_store, guards_in, places_in, turns_in, streams_meant}
 use Rattle.send_top.specs.declared.asked.StreamsWords.{StreamsWords}
 use Rattle.send_top.specs.declared.asked.ReceiveWords.{ReceiveWords}

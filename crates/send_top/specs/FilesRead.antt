@@ -4,12 +4,13 @@ use Rattle.send_model.specs.Words as streams
 use Rattle.send_model.specs.Words.{Compose, Audit, Dump, Export, Gen, Trial}
 use Rattle.store_model.specs.Requests as stored
 use Rattle.store_model.specs.Requests.{OfStreams, InitStore, DropEntry, ReceiveFiles, ListStore, ShowEntry, CatFile, ScrubStore, word_at}
-use Rattle.word_model.specs.NameWords.{files_in}
-use Rattle.word_model.specs.AllRequests.{Request, OfStore, SendEntry, RestoreEntry, TakeTurns}
+use Rattle.program_model.specs.FileWords.{files_in}
+use Rattle.program_model.specs.AllRequests.{Request, OfStore, SendEntry, RestoreEntry, TakeTurns}
 use Rattle.sx_base.specs.Asks.{Ask, AreReadOnce, AreReadTwice}
 use Rattle.turn_sessions.specs.Asked.{AreReadInTurns}
 
--- Composing reads its files twice, in their order, and ranges of their data again; each other request reads its files once, in their order.
+-- Composing reads its files twice, in their order, and ranges of their data again; each other
+-- request reads its files once, in their order.
 abbrev pub StreamsRead : (told : Option (List (List ℕ × List ℕ))) → streams.Request → (words : List (List ℕ)) → List Ask → Type 0
 StreamsRead told (Compose store files) words = AreReadTwice told (files_in (drop files words))
 StreamsRead told (Audit guards store files) words = AreReadOnce (files_in (drop files words))

@@ -4,3 +4,4 @@ pub mod AuditWords
 pub mod Answered
 pub mod Run
 pub mod FilesRead
+pub mod Clauses

@@ -2,16 +2,16 @@
 use Rattle.std.specs.Prelude.{◌≡◌, ◌≢◌, ⊤, ℕ, ◌+◌, ◌-◌, ◌<◌, ◌≤◌, Bool, true, List, [], ◌∷◌, length, map, take, drop, Option, None, Some, is_some, IsTrue, if◌then◌else◌}
 use Rattle.std.specs.Option.{option_map, unwrap_or}
 use Rattle.send_model.specs.Guards.{GuardSpec, Guard, guard_of}
-use Rattle.send_model.specs.Renamed.{Names}
+use Rattle.send_model.specs.Overridden.{Overrides}
 use Rattle.send_model.specs.Words as streams
 use Rattle.send_model.specs.Words.{Compose, Audit, Dump, Export, Gen, Trial, new_guards}
 use Rattle.store_model.specs.NamedFiles.{NamedFiles}
 use Rattle.store_model.specs.Requests as stored
 use Rattle.store_model.specs.Requests.{OfStreams, InitStore, DropEntry, ReceiveFiles, ListStore, ShowEntry, CatFile, ScrubStore, or_over_store, word_at, store_of, reads_store}
 use Rattle.store_model.specs.Turns.{schedule_of}
-use Rattle.word_model.specs.NameWords.{GivenFiles, given_from, files_in, names_in, streams_named_at}
-use Rattle.word_model.specs.AllRequests as meant
-use Rattle.word_model.specs.AllRequests.{OfStore, SendEntry, RestoreEntry, TakeTurns, TurnFiles, turn_files, request_of, or_of_subvolumes, name_at}
+use Rattle.program_model.specs.FileWords.{GivenFiles, given_in, files_in, overrides_in, streams_named_at}
+use Rattle.program_model.specs.AllRequests as meant
+use Rattle.program_model.specs.AllRequests.{OfStore, SendEntry, RestoreEntry, TakeTurns, TurnFiles, turn_files, request_of, or_of_subvolumes, name_at}
 use Rattle.send_top.specs.declared.store_named.StoreUse.{StoreUse}
 use Rattle.send_top.specs.declared.store_named.StoreUse.TheVariants as used
 use Rattle.send_top.specs.declared.words.Request.{Request}
@@ -78,41 +78,43 @@ names_asked (SendEntry store name) words = []
 names_asked (RestoreEntry store name) words = []
 names_asked (TakeTurns store schedule turns) words = turns.files
 
--- The names that a request gives for the parts in these files.
-abbrev pub streams_part_names : streams.Request → List (List ℕ) → Names
-streams_part_names (Compose store files) words = names_in (drop files words)
-streams_part_names (Audit guards store files) words = names_in (drop files words)
-streams_part_names (Dump file) words = []
-streams_part_names (Export store files) words = names_in (drop files words)
-streams_part_names (Gen count seed) words = []
-streams_part_names (Trial count seed) words = []
+-- What a request says in front of these files.
+abbrev pub streams_overrides : streams.Request → List (List ℕ) → Overrides
+streams_overrides (Compose store files) words = overrides_in (drop files words)
+streams_overrides (Audit guards store files) words = overrides_in (drop files words)
+streams_overrides (Dump file) words = []
+streams_overrides (Export store files) words = overrides_in (drop files words)
+streams_overrides (Gen count seed) words = []
+streams_overrides (Trial count seed) words = []
 
-abbrev pub stored_part_names : stored.Request → List (List ℕ) → Names
-stored_part_names (OfStreams request) words = streams_part_names request words
-stored_part_names (InitStore store) words = []
-stored_part_names (DropEntry store name) words = []
-stored_part_names (ReceiveFiles guards store files) words = names_in (drop files words)
-stored_part_names (ListStore store) words = []
-stored_part_names (ShowEntry store name) words = []
-stored_part_names (CatFile store name path) words = []
-stored_part_names (ScrubStore store) words = []
+abbrev pub stored_overrides : stored.Request → List (List ℕ) → Overrides
+stored_overrides (OfStreams request) words = streams_overrides request words
+stored_overrides (InitStore store) words = []
+stored_overrides (DropEntry store name) words = []
+stored_overrides (ReceiveFiles guards store files) words = overrides_in (drop files words)
+stored_overrides (ListStore store) words = []
+stored_overrides (ShowEntry store name) words = []
+stored_overrides (CatFile store name path) words = []
+stored_overrides (ScrubStore store) words = []
 
-abbrev pub part_names : meant.Request → List (List ℕ) → Names
-part_names (OfStore request) words = stored_part_names request words
-part_names (SendEntry store name) words = []
-part_names (RestoreEntry store name) words = []
-part_names (TakeTurns store schedule turns) words = []
+abbrev pub overrides_asked : meant.Request → List (List ℕ) → Overrides
+overrides_asked (OfStore request) words = stored_overrides request words
+overrides_asked (SendEntry store name) words = []
+overrides_asked (RestoreEntry store name) words = []
+overrides_asked (TakeTurns store schedule turns) words = []
 
--- The bytes of the files among words with the names that the words give; and those of a request.
-abbrev pub with_names : List (List ℕ) → List (List ℕ) → NamedFiles
-with_names words files = record { bytes = files; names = names_in words }
+-- The bytes of the files among words with what the words say in front of them; and those of a
+-- request.
+abbrev pub with_overrides : List (List ℕ) → List (List ℕ) → NamedFiles
+with_overrides words files = record { bytes = files; overrides = overrides_in words }
 
 abbrev pub named_files : meant.Request → List (List ℕ) → List (List ℕ) → NamedFiles
-named_files request words files = record { bytes = files; names = part_names request words }
+named_files request words files = record { bytes = files; overrides = overrides_asked request words }
 
--- What words give, where they may give names: their files, of which there are some, with the names for the parts in these.
+-- What words give, if they may say something in front of files: their files, of which there are
+-- some, with what is said.
 pub record IsGivenAt (place : ℕ) (words : List (List ℕ)) (given : GivenFiles) : Type 0 where
-  pub is : given_from None (drop place words) ≡ Some given
+  pub is : given_in (drop place words) ≡ Some given
   pub some : given.files ≢ []
 
 abbrev pub IfGivenAt : Option ℕ → List (List ℕ) → GivenFiles → Type 0
@@ -122,7 +124,8 @@ IfGivenAt (Some place) words given = IsGivenAt place words given
 abbrev pub HasGiven : streams.Request → List (List ℕ) → GivenFiles → Type 0
 HasGiven request words given = IfGivenAt (streams_named_at request) words given
 
--- The requests that are answered by the disk: those over a store, and of those on streams the ones that read one.
+-- The requests that are answered by the disk: those over a store, and of those on streams the ones
+-- that read one.
 abbrev pub stored_uses : List (List ℕ) → stored.Request → Bool
 stored_uses words (OfStreams request) = reads_store words (store_of request)
 stored_uses words (InitStore store) = true
@@ -160,7 +163,8 @@ store_place words (TakeTurns store schedule turns) = Some store
 unfoldable pub store_named : List (List ℕ) → Option (List ℕ)
 store_named words = elim (request_of words) [ None ↦ None | Some request ↦ option_map (word_at words) (store_place words request) ]
 
--- What such a request does with the disk: it makes a store there, writes to the one that is there, or only reads it.
+-- What such a request does with the disk: it makes a store there, writes to the one that is there,
+-- or only reads it.
 abbrev pub stored_use : stored.Request → StoreUse
 stored_use (OfStreams request) = used.Read
 stored_use (InitStore store) = used.Make
@@ -180,8 +184,8 @@ use_of (TakeTurns store schedule turns) = used.Write
 unfoldable pub use_asked : List (List ℕ) → Option StoreUse
 use_asked words = elim (request_of words) [ None ↦ None | Some request ↦ if uses_store words request then Some (use_of request) else None ]
 
--- Words and guards ask for a request: the words mean it, and the guards are those that it gives, in order, of which none has
--- counted anything yet.
+-- Words and guards ask for a request: the words mean it, and the guards are those that it gives, in
+-- order, of which none has counted anything yet.
 pub record Asks (words : List (List ℕ)) (guards : List Guard) (request : meant.Request) : Type 0 where
   pub meant : request_of words ≡ Some request
   pub fits : guards ≡ new_guards (specs_of request)
@@ -295,7 +299,8 @@ abbrev pub IsWithin : ℕ → Request → Type 0
 IsWithin count (made.Streams request) = AreWithin count request
 IsWithin count (made.Store request) = IsOverWithin count request
 
--- The bytes that are meant by the name and by the path of a request over a store; none where it has none.
+-- The bytes that are meant by the name and by the path of a request over a store; none where it has
+-- none.
 abbrev pub entry_name : List (List ℕ) → StoreRequest → List ℕ
 entry_name words (of_store.Init store) = []
 entry_name words (of_store.Drop store name) = name_at words name

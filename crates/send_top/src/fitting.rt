@@ -4,15 +4,15 @@ ghost use Rattle.std.specs.Option.{option_map};
 ghost use Rattle.std.specs.String.{string_bytes};
 ghost use Rattle.send_model.specs.Guards.{new_guard, guard_of};
 ghost use Rattle.send_model.specs.Words.{new_guards};
-ghost use Rattle.word_model.specs.AllRequests.{TurnFiles, turn_files};
+ghost use Rattle.program_model.specs.AllRequests.{TurnFiles, turn_files};
 ghost use Rattle.guard_rules.specs.Meaning.{spec_meant};
 ghost use Rattle.send_top.specs.Requests.{request_meant, store_meant, specs_of, guards_in, before_store, turns_in, AreGuardWords, IsOverWithin, IsWithin, StoreFits, WordsFit};
 
 use crate::words::{Request, StoreRequest, StreamsRequest, is_guard_word};
 use guard_rules::{Guard, GuardSpec, parse_guard};
 
-/// Whether the guards are those that the words of a request give, in order, and none of them has counted anything. Takes no
-/// memory.
+/// Whether the guards are those that the words of a request give, in order, and none of them has
+/// counted anything. Takes no memory.
 pub fn guards_fit(words: &[String], request: Request, guards: &[Box<dyn Guard>]) -> bool
     requires within { IsWithin (length words.now) request }
     requires fit { WordsFit (map string_bytes words.now) request }

@@ -6,16 +6,16 @@ ghost use Rattle.send_model.specs.Answer.{Usage};
 ghost use Rattle.send_model.specs.Attribute.{IsBytes};
 ghost use Rattle.send_model.specs.Words.{new_guards};
 ghost use Rattle.store_model.specs.Answers.{OfAnyWord};
-ghost use Rattle.turn_model.specs.TurnDues.{shared};
-ghost use Rattle.turn_model.specs.TurnAnswers.{TurnsAnswer};
-ghost use Rattle.word_model.specs.AllRequests.{TurnFiles, turn_files};
+ghost use Rattle.store_model.specs.TurnDues.{shared};
+ghost use Rattle.store_model.specs.TurnAnswers.{TurnsAnswer};
+ghost use Rattle.program_model.specs.AllRequests.{TurnFiles, turn_files};
 ghost use Rattle.guard_rules.specs.AnyKind.{any_kept};
 ghost use Rattle.sx_base.specs.Calls.{IfAllTold, Wrote};
 ghost use Rattle.sx_base.specs.Causes.{Rose};
 ghost use Rattle.sx_base.specs.Later.{AskedOnly};
 ghost use Rattle.sx_base.specs.Crash.{LeavesOnly};
 ghost use Rattle.sx_base.specs.Disk.{IsImage};
-ghost use Rattle.store_words.specs.Ending.{receive_ways};
+ghost use Rattle.store_commands.specs.Ending.{receive_ways};
 ghost use Rattle.turn_sessions.specs.Asked.{AreReadInTurns};
 ghost use Rattle.turn_sessions.specs.Leaving.{LeftByTurns};
 ghost use Rattle.send_top.specs.Answered.{answer_of};
@@ -34,8 +34,8 @@ use std::mem;
 use sx_base::{Disk, Inputs, Outcome, Sink};
 use turn_sessions::{Task, interleave_store};
 
-/// What receiving files that take turns into a store answers: by the schedule at one place of the words, and the files and their guards from
-/// another place on.
+/// What receiving files that take turns into a store answers: by the schedule at one place of the
+/// words, and the files and their guards from another place on.
 pub(crate) fn interleave_answer<I: Inputs, O: Sink, D: Disk>(
     asked: &TurnWords<'_>,
     inputs: &mut I,

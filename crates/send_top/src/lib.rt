@@ -1,4 +1,5 @@
-//! btrsend as one call: its words, its notes and exit statuses, and what it does with the inputs and sinks that it is handed.
+//! btrsend as one call: its words, its notes and exit statuses, and what it does with the inputs
+//! and sinks that it is handed.
 #![tactic(auto)]
 
 mod asked;

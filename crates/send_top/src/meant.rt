@@ -2,8 +2,8 @@
 ghost use Rattle.std.specs.Prelude.{◌≡◌, ◌<◌, ◌&&◌, [], true, length, map, is_some, IfOk, OnErr};
 ghost use Rattle.std.specs.String.{string_bytes};
 ghost use Rattle.store_model.specs.Requests.{word_at};
-ghost use Rattle.word_model.specs.EscapedWords.{meant_by};
-ghost use Rattle.word_model.specs.AllRequests.{are_meant, meant_at, name_at};
+ghost use Rattle.program_model.specs.EscapedWords.{meant_by};
+ghost use Rattle.program_model.specs.AllRequests.{are_meant, meant_at, name_at};
 ghost use Rattle.send_top.specs.Requests.{entry_name, entry_path, HasName, IsOverWithin, IsWithin, request_meant, store_meant};
 
 use crate::words::{Request, StoreRequest, word_bytes};
@@ -18,7 +18,8 @@ pub(crate) struct Meant {
     pub(crate) path: Blob,
 }
 
-/// The bytes that the name and the path of a request mean. Where there is no memory for them, it has a name.
+/// The bytes that the name and the path of a request mean. Where there is no memory for them, it
+/// has a name.
 pub(crate) fn meant_in(
     alloc: Global,
     words: &[String],

@@ -79,8 +79,9 @@ pub fn status(answer: &Answer) -> u8
     }
 }
 
-/// Writes the note of an answer, a line with its newline, and nothing where all was done. At `Failed`, which comes
-/// only where the count of the notes rose, they got a proper prefix of it. Takes no memory.
+/// Writes the note of an answer, a line with its newline, and nothing where all was done. At
+/// `Failed`, which comes only where the count of the notes rose, they got a proper prefix of it.
+/// Takes no memory.
 pub fn write_note<N: Sink>(answer: &Answer, notes: &mut N) -> Result<(), Failed>
     ensures whole { OnOk result
         (Appends (N.taken notes.old) (N.taken notes.new) (note_of (answer_of answer.now))) }

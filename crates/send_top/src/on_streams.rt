@@ -7,9 +7,9 @@ ghost use Rattle.send_model.specs.Store.{Store};
 ghost use Rattle.send_model.specs.Words.{Compose, Export, new_guards};
 ghost use Rattle.store_model.specs.Requests.{OfStreams, word_at, store_of, reads_store, at_entry};
 ghost use Rattle.store_model.specs.Answers.{Answers, OfAnyWord};
-ghost use Rattle.word_model.specs.AllRequests.{OfStore};
-ghost use Rattle.word_model.specs.NameWords.{files_in, names_in, names_stand, streams_named_at};
-ghost use Rattle.part_names.specs.Naming.{EndsOf, sources_named};
+ghost use Rattle.program_model.specs.AllRequests.{OfStore};
+ghost use Rattle.program_model.specs.FileWords.{files_in, overrides_in, names_stand, streams_named_at};
+ghost use Rattle.part_names.specs.Overriding.{EndsOf, sources_with};
 ghost use Rattle.store_model.specs.Stored.{StandsFor};
 ghost use Rattle.sx_base.specs.Calls.{IfAllTold, FoundChanged, Wrote, SteadyIfDone};
 ghost use Rattle.sx_base.specs.Causes.{Rose, counts};
@@ -20,9 +20,9 @@ ghost use Rattle.sx_base.specs.declared.outcome.Outcome.TheVariants as ended;
 ghost use Rattle.sx_base.specs.declared.outcome.Verdict as sx;
 ghost use Rattle.send_top.specs.Answered.{answer_of};
 ghost use Rattle.send_top.specs.FilesRead.{StreamsRead};
-ghost use Rattle.send_top.specs.Requests.{AreWithin, HasGiven, named_files, streams_meant, streams_specs, streams_names, streams_part_names};
+ghost use Rattle.send_top.specs.Requests.{AreWithin, HasGiven, named_files, streams_meant, streams_specs, streams_names, streams_overrides};
 ghost use Rattle.send_top.specs.Asked.{streams_of, words_of};
-ghost use Rattle.send_top.specs.Run.{AreSteady, EndCaused, IfAllRead, IfOfCompose, IfOfStore, IsCaused, IsChangedIn, IsComposedFor, IsExportedFor, IsFrontFor, MayGet, OfDisk, WroteOver, outside};
+ghost use Rattle.send_top.specs.Run.{AreSteady, EndCaused, IfAllRead, IfOfCompose, IfOfStore, IsCaused, IsChangedIn, IsComposedFor, IsExportedFor, IsFrontFor, IsMade, IsMadeAnswer, IsMadeEnd, MayGet, OfDisk, WroteOver, outside};
 
 use crate::asked::StreamsWords;
 use crate::noting::Answer;
@@ -38,8 +38,8 @@ use file_words::GivenFiles;
 use guard_rules::Guard;
 use part_names::NamedFiles;
 use std::alloc::{AllocError, Global};
-use store_base::compose_store;
-use store_words::{audit_store, export_store};
+use store_commands::{audit_store, export_store};
+use store_compose::compose_store;
 use stream_dump::dump;
 use stream_export::export;
 use stream_gen::write_chain;
@@ -104,6 +104,8 @@ pub(crate) fn streams_answer<I: Inputs, O: Sink, D: Disk>(
         (at_entry (words_of asked.now) (D.seen disk.old) (named_files (OfStore (OfStreams
         (streams_of asked.now))) (words_of asked.now) files))
         (answer_of result) written (D.seen disk.new)))) }
+    ensures made { IsMade (streams_of asked.now) → IsMadeAnswer (answer_of result) }
+    ensures unread { IsMade (streams_of asked.now) → inputs.new ≡ inputs.old }
     ensures off_disk { reads_store (words_of asked.now) (store_of (streams_of asked.now)) ≡ false
         → disk.new ≡ disk.old }
     ensures unharmed { D.tells → D.seen disk.new ≡ D.seen disk.old }
@@ -178,20 +180,20 @@ fn streams_over_store<I: Inputs, O: Sink, D: Disk>(
         → IfAllTold (I.told inputs.old) (files_in (drop at (words_of asked.now)))
         (λ files. Wrote (O.taken out.old) (O.taken out.new)
         (λ written. (s : Store ℕ) → StandsFor (D.seen disk.old) s
-        → IsComposedFor s (names_in (drop at (words_of asked.now))) files written)) }
+        → IsComposedFor s (overrides_in (drop at (words_of asked.now))) files written)) }
     ensures refused { D.tells → (verdict : Verdict)
         → answer_of result ≡ OfAnyWord (Refused verdict) → (store at : ℕ)
         → streams_of asked.now ≡ Compose store at
         → IfAllTold (I.told inputs.old) (files_in (drop at (words_of asked.now)))
         (λ files. Wrote (O.taken out.old) (O.taken out.new)
         (λ written. (s : Store ℕ) → StandsFor (D.seen disk.old) s
-        → IsFrontFor s (names_in (drop at (words_of asked.now))) files written)) }
+        → IsFrontFor s (overrides_in (drop at (words_of asked.now))) files written)) }
     ensures exported { D.tells → answer_of result ≡ OfAnyWord Done → (store at : ℕ)
         → streams_of asked.now ≡ Export store at
         → IfAllTold (I.told inputs.old) (files_in (drop at (words_of asked.now)))
         (λ files. Wrote (O.taken out.old) (O.taken out.new)
         (λ written. (s : Store ℕ) → StandsFor (D.seen disk.old) s
-        → IsExportedFor s (names_in (drop at (words_of asked.now))) files written)) }
+        → IsExportedFor s (overrides_in (drop at (words_of asked.now))) files written)) }
     ensures answered { D.tells → IfAllRead (I.told inputs.old)
         (streams_names (streams_of asked.now) (words_of asked.now))
         (λ files. Wrote (O.taken out.old) (O.taken out.new)
@@ -208,7 +210,7 @@ fn streams_over_store<I: Inputs, O: Sink, D: Disk>(
             let named = NamedFiles {
                 alloc: asked.alloc,
                 files: given.files(),
-                names: given.names(),
+                overrides: given.overrides(),
             };
             end_answer(asked.alloc, compose_store(&named, disk, inputs, out))
         }
@@ -216,7 +218,7 @@ fn streams_over_store<I: Inputs, O: Sink, D: Disk>(
             let named = NamedFiles {
                 alloc: asked.alloc,
                 files: given.files(),
-                names: given.names(),
+                overrides: given.overrides(),
             };
             end_answer(asked.alloc, audit_store(&named, disk, inputs, guards, out))
         }
@@ -224,7 +226,7 @@ fn streams_over_store<I: Inputs, O: Sink, D: Disk>(
             let named = NamedFiles {
                 alloc: asked.alloc,
                 files: given.files(),
-                names: given.names(),
+                overrides: given.overrides(),
             };
             end_answer(asked.alloc, export_store(&named, disk, inputs, out))
         }
@@ -257,37 +259,39 @@ fn streams_end<I: Inputs, O: Sink>(
         (counts (I.ends inputs.new) (I.faults inputs.new) (O.faults out.new)) result }
     ensures changed { FoundChanged
         (streams_names (streams_of asked.now) (words_of asked.now)) (I.last_end inputs.new) result }
+    ensures made { IsMade (streams_of asked.now) → IsMadeEnd result }
+    ensures unread { IsMade (streams_of asked.now) → inputs.new ≡ inputs.old }
     ensures composed { result ≡ ended.Done → (store at : ℕ)
         → streams_of asked.now ≡ Compose store at
         → IfAllTold (I.told inputs.old) (files_in (drop at (words_of asked.now)))
         (λ files. Wrote (O.taken out.old) (O.taken out.new)
-        (IsComposedFor [] (names_in (drop at (words_of asked.now))) files)) }
+        (IsComposedFor [] (overrides_in (drop at (words_of asked.now))) files)) }
     ensures refused { (verdict : sx.Verdict) → result ≡ ended.Refused verdict → (store at : ℕ)
         → streams_of asked.now ≡ Compose store at
         → IfAllTold (I.told inputs.old) (files_in (drop at (words_of asked.now)))
         (λ files. Wrote (O.taken out.old) (O.taken out.new)
-        (IsFrontFor [] (names_in (drop at (words_of asked.now))) files)) }
+        (IsFrontFor [] (overrides_in (drop at (words_of asked.now))) files)) }
     ensures exported { result ≡ ended.Done → (store at : ℕ)
         → streams_of asked.now ≡ Export store at
         → IfAllTold (I.told inputs.old) (files_in (drop at (words_of asked.now)))
         (λ files. Wrote (O.taken out.old) (O.taken out.new)
-        (IsExportedFor [] (names_in (drop at (words_of asked.now))) files)) }
+        (IsExportedFor [] (overrides_in (drop at (words_of asked.now))) files)) }
     ensures ends { IfAllRead (I.told inputs.old)
         (streams_names (streams_of asked.now) (words_of asked.now))
         (λ files. Wrote (O.taken out.old) (O.taken out.new)
-        (EndsOf (streams_of asked.now) [] (sources_named
-        (streams_part_names (streams_of asked.now) (words_of asked.now)) files) result)) }
+        (EndsOf (streams_of asked.now) [] (sources_with
+        (streams_overrides (streams_of asked.now) (words_of asked.now)) files) result)) }
 {
     match asked.request {
         StreamsRequest::Compose { .. } => {
-            compose(asked.alloc, inputs, given.files(), given.names(), out)
+            compose(asked.alloc, inputs, given.files(), given.overrides(), out)
         }
         StreamsRequest::Audit { .. } => {
             let core = EditCore::new(asked.alloc);
             let named = NamedFiles {
                 alloc: asked.alloc,
                 files: given.files(),
-                names: given.names(),
+                overrides: given.overrides(),
             };
             audit(&named, core, Nowhere, inputs, guards, out)
         }
@@ -297,9 +301,9 @@ fn streams_end<I: Inputs, O: Sink>(
             let named = NamedFiles {
                 alloc: asked.alloc,
                 files: given.files(),
-                names: given.names(),
+                overrides: given.overrides(),
             };
-            named.names.are_given();
+            named.overrides.are_given();
             export(&named, core, Nowhere, inputs, out)
         }
         StreamsRequest::Gen { count, seed } => write_chain(asked.alloc, count, seed, out),

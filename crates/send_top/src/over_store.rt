@@ -8,12 +8,12 @@ ghost use Rattle.send_model.specs.Guards.{GuardSpec};
 ghost use Rattle.send_model.specs.Words.{new_guards};
 ghost use Rattle.store_model.specs.Requests.{ReceiveFiles, word_at, at_entry};
 ghost use Rattle.store_model.specs.Answers.{OfAnyWord};
-ghost use Rattle.word_model.specs.NameWords.{files_in, names_stand};
-ghost use Rattle.word_model.specs.AllRequests.{OfStore, TakeTurns, TurnFiles, request_named_at};
-ghost use Rattle.word_model.specs.AllAnswers.{Answers, ReadsFiles, ReadsOnly};
-ghost use Rattle.store_words.specs.Ending as ending;
-ghost use Rattle.store_words.specs.Receiving.{LeftByReceive};
-ghost use Rattle.turn_model.specs.TurnDues.{in_turns};
+ghost use Rattle.program_model.specs.FileWords.{files_in, names_stand};
+ghost use Rattle.program_model.specs.AllRequests.{OfStore, TakeTurns, TurnFiles, request_named_at};
+ghost use Rattle.program_model.specs.AllAnswers.{Answers, ReadsFiles, ReadsOnly};
+ghost use Rattle.store_commands.specs.Ending as ending;
+ghost use Rattle.store_commands.specs.Receiving.{LeftByReceive};
+ghost use Rattle.store_model.specs.TurnDues.{in_turns};
 ghost use Rattle.turn_sessions.specs.Leaving.{LeftByTurns};
 ghost use Rattle.sx_base.specs.Calls.{IfAllTold, Wrote};
 ghost use Rattle.sx_base.specs.Causes.{Rose};
@@ -22,7 +22,7 @@ ghost use Rattle.sx_base.specs.Crash.{LeavesOnly};
 ghost use Rattle.sx_base.specs.Disk.{IsImage, settled};
 ghost use Rattle.send_top.specs.Answered.{answer_of};
 ghost use Rattle.send_top.specs.FilesRead.{FilesRead};
-ghost use Rattle.send_top.specs.Requests.{IsOverWithin, StoreFits, names_asked, named_files, store_meant, with_names};
+ghost use Rattle.send_top.specs.Requests.{IsOverWithin, StoreFits, names_asked, named_files, store_meant, with_overrides};
 ghost use Rattle.send_top.specs.Run.{AreSteady, AtAnyMoment, IfAllRead, IfBytes, IfMadeOrDropped, IfOfCompose, IsCaused, MayGet, Prints, SendsInPart};
 
 use crate::asked::{ReceiveWords, TurnWords};
@@ -33,7 +33,7 @@ use crate::receiving::receive_answer;
 use crate::words::StoreRequest;
 use full_send::{restore_entry, send_entry};
 use std::alloc::Global;
-use store_words::{
+use store_commands::{
     StoreEnd, cat_file, drop_entry, init_store, list_store, scrub_store, show_entry,
 };
 use sx_base::{Blob, Disk, Inputs, Outcome, Sink};
@@ -98,7 +98,7 @@ pub(crate) fn store_answer<I: Inputs, O: Sink, D: Disk>(
         (λ written. AllByRecursion IsBytes files → (image : List ℕ)
         → IsImage (D.pending disk.new) image
         → LeftByReceive (D.pending disk.old) (D.seen disk.old) (new_guards specs)
-        (with_names (drop at (map string_bytes words.now)) files) written image)) }
+        (with_overrides (drop at (map string_bytes words.now)) files) written image)) }
     ensures acknowledged_in_turn { D.tells → (store : ℕ) (schedule : List ℕ) (turns : TurnFiles)
         → store_meant (map string_bytes words.now) request ≡ TakeTurns store schedule turns
         → IfAllTold (I.told inputs.old) turns.files

@@ -7,7 +7,7 @@ ghost use Rattle.send_model.specs.Attribute.{IsBytes};
 ghost use Rattle.send_model.specs.Words.{new_guards};
 ghost use Rattle.store_model.specs.Requests.{ReceiveFiles, at_entry};
 ghost use Rattle.store_model.specs.Answers.{Answers, OfAnyWord};
-ghost use Rattle.word_model.specs.NameWords.{given_from, files_in};
+ghost use Rattle.program_model.specs.FileWords.{given_in, files_in};
 ghost use Rattle.guard_rules.specs.AnyKind.{any_kept};
 ghost use Rattle.sx_base.specs.Calls.{IfAllTold, Wrote};
 ghost use Rattle.sx_base.specs.Causes.{Rose};
@@ -15,11 +15,11 @@ ghost use Rattle.sx_base.specs.Asks.{AreReadOnce};
 ghost use Rattle.sx_base.specs.Later.{AskedOnly};
 ghost use Rattle.sx_base.specs.Crash.{LeavesOnly};
 ghost use Rattle.sx_base.specs.Disk.{IsImage};
-ghost use Rattle.store_words.specs.Ending.{receive_ways};
-ghost use Rattle.store_words.specs.Receiving.{LeftByReceive};
+ghost use Rattle.store_commands.specs.Ending.{receive_ways};
+ghost use Rattle.store_commands.specs.Receiving.{LeftByReceive};
 ghost use Rattle.send_top.specs.Answered.{answer_of};
 ghost use Rattle.send_top.specs.Asked.{received_words, receive_guards};
-ghost use Rattle.send_top.specs.Requests.{AreGuardWords, before_store, guards_in, with_names};
+ghost use Rattle.send_top.specs.Requests.{AreGuardWords, before_store, guards_in, with_overrides};
 ghost use Rattle.send_top.specs.Run.{AreSteady, IfAllRead, IfOfCompose, IsCaused, IsGivenFor};
 
 use crate::asked::ReceiveWords;
@@ -32,7 +32,7 @@ use guard_rules::{AnyGuard, parse_guard};
 use part_names::NamedFiles;
 use receiver::GuardList;
 use std::alloc::{AllocError, Global};
-use store_words::receive_store;
+use store_commands::receive_store;
 use sx_base::{Disk, Inputs, Outcome, Sink};
 
 /// What receiving files into a store answers, under the guards of the words in front of the store.
@@ -46,7 +46,7 @@ pub(crate) fn receive_answer<I: Inputs, O: Sink, D: Disk>(
         × (asked.now.files < length asked.now.words.now) }
     requires given { AreGuardWords
         (before_store (map string_bytes asked.now.words.now) asked.now.store) }
-    requires named { is_some (given_from None (received_words asked.now)) ≡ true }
+    requires named { is_some (given_in (received_words asked.now)) ≡ true }
     ensures same { I.told inputs.new ≡ I.told inputs.old }
     ensures files_read { AskedOnly I.Inputs inputs.old inputs.new
         (AreReadOnce (files_in (received_words asked.now))) }
@@ -65,7 +65,7 @@ pub(crate) fn receive_answer<I: Inputs, O: Sink, D: Disk>(
         (λ written. AllByRecursion IsBytes bytes
         → Answers (ReceiveFiles (receive_guards asked.now) asked.now.store asked.now.files)
         (at_entry (map string_bytes asked.now.words.now) (D.seen disk.old)
-        (with_names (received_words asked.now) bytes))
+        (with_overrides (received_words asked.now) bytes))
         (answer_of result) written (D.seen disk.new))) }
     ensures any_moment { D.tells → IfAllTold (I.told inputs.old)
         (files_in (received_words asked.now))
@@ -73,7 +73,7 @@ pub(crate) fn receive_answer<I: Inputs, O: Sink, D: Disk>(
         → LeavesOnly D.moment D.left_since disk.old disk.new
         (LeftByReceive (D.pending disk.old) (D.seen disk.old)
         (new_guards (receive_guards asked.now))
-        (with_names (received_words asked.now) bytes) [])) }
+        (with_overrides (received_words asked.now) bytes) [])) }
     ensures acknowledged { D.tells → IfAllTold (I.told inputs.old)
         (files_in (received_words asked.now))
         (λ bytes. Wrote (O.taken out.old) (O.taken out.new)
@@ -81,7 +81,7 @@ pub(crate) fn receive_answer<I: Inputs, O: Sink, D: Disk>(
         → IsImage (D.pending disk.new) image
         → LeftByReceive (D.pending disk.old) (D.seen disk.old)
         (new_guards (receive_guards asked.now))
-        (with_names (received_words asked.now) bytes) written image)) }
+        (with_overrides (received_words asked.now) bytes) written image)) }
 {
     let Ok(guards) = guards_of(asked.alloc, words_before(asked.words, asked.store)) else {
         return Answer::Ended(Outcome::NoMemory);
@@ -93,7 +93,7 @@ pub(crate) fn receive_answer<I: Inputs, O: Sink, D: Disk>(
     let named = NamedFiles {
         alloc: asked.alloc,
         files: given.files(),
-        names: given.names(),
+        overrides: given.overrides(),
     };
     end_answer(
         asked.alloc,

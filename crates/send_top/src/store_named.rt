@@ -3,7 +3,7 @@ ghost use Rattle.std.specs.Prelude.{◌≡◌, ◌<◌, ℕ, List, map, length, 
 ghost use Rattle.std.specs.Option.{option_map};
 ghost use Rattle.std.specs.String.{string_bytes};
 ghost use Rattle.store_model.specs.Requests.{OfStreams, reads_store, store_of};
-ghost use Rattle.word_model.specs.AllRequests.{OfStore};
+ghost use Rattle.program_model.specs.AllRequests.{OfStore};
 ghost use Rattle.send_top.specs.Requests.{AreWithin, IsOverWithin, IsWithin, request_meant, streams_meant, store_meant, store_named, store_place, use_asked, use_of};
 
 use crate::words::{NO_STORE, Request, StoreRequest, StreamsRequest, read_words};
@@ -19,7 +19,8 @@ pub enum StoreUse {
     Read,
 }
 
-/// The word that names the store, of words that ask for something that is answered by one. Takes no memory.
+/// The word that names the store, of words that ask for something that is answered by one. Takes no
+/// memory.
 #[tactic(auto, unfolding(crate::specs::Requests::store_named))]
 pub fn store_word(words: &[String]) -> Option<&str>
     ensures { option_map (λ word. word.now) result ≡ store_named (map string_bytes words.now) }

@@ -5,16 +5,23 @@ ghost use Rattle.send_model.specs.Answer.{Done, Refused, Usage};
 ghost use Rattle.send_model.specs.Reading.{Verdict};
 ghost use Rattle.store_model.specs.Answers as meant;
 ghost use Rattle.store_model.specs.Answers.{OfAnyWord};
-ghost use Rattle.word_model.specs.AllRequests as requests;
-ghost use Rattle.word_model.specs.AllAnswers.{ReadsFiles, ReadsOnly};
+ghost use Rattle.program_model.specs.AllRequests as requests;
+ghost use Rattle.send_model.specs.Words as streams;
+ghost use Rattle.store_model.specs.Requests.{OfStreams};
+ghost use Rattle.program_model.specs.AllRequests.{OfStore};
+ghost use Rattle.program_model.specs.AllAnswers.{ReadsOnly};
+ghost use Rattle.program_model.specs.Agreement.{values_of};
+ghost use Rattle.program_model.specs.Profiles.{profile, NoFiles};
 ghost use Rattle.sx_base.specs.Causes.{Rose};
 ghost use Rattle.sx_base.specs.Later.{AskedOnly};
 ghost use Rattle.sx_base.specs.Crash.{LeavesOnly};
 ghost use Rattle.sx_base.specs.Disk.{settled};
-ghost use Rattle.send_top.specs.Answered.{IsGiven, answer_of};
+ghost use Rattle.send_top.specs.Answered.{answer_of};
+ghost use Rattle.send_top.specs.Clauses.{Answers, IsAcknowledged, IsCaused, IsCrashSafe, IsExported, IsMerged, IsSent, MeansNothing, Touches, run_of};
 ghost use Rattle.send_top.specs.FilesRead.{FilesRead};
 ghost use Rattle.send_top.specs.Requests.{AskNothing, Asks, uses_store};
-ghost use Rattle.send_top.specs.Run.{Acknowledges, AcknowledgesInTurn, AreSteady, AtAnyMoment, IfMadeOrDropped, AskForStore, AskToCompose, Composes, ComposesFront, Exports, IfOfCompose, IfOfStore, IsAllowed, IsAnswered, IsCaused, IsChangedAt, IsStoreStatus, Prints, Sends, SendsInPart, outside};
+ghost use Rattle.send_top.specs.Run as run;
+ghost use Rattle.send_top.specs.Run.{Acknowledges, AcknowledgesInTurn, AreSteady, AtAnyMoment, IfMadeOrDropped, AskForStore, AskToCompose, Composes, ComposesFront, Exports, IfOfCompose, IfOfStore, IsAllowed, IsAnswered, IsChangedAt, IsMade, IsMadeAnswer, Prints, SendsInPart, outside};
 
 use crate::asked::StreamsWords;
 use crate::fitting::guards_fit;
@@ -26,25 +33,30 @@ use guard_rules::Guard;
 use std::alloc::Global;
 use sx_base::{Disk, Inputs, Sink};
 
-/// Does what the words after the program's name ask for, and gives the exit status. Where it is not 0, `notes` get
-/// the line that says why; a line that fails leaves the status. Words that mean nothing, and guards that are not those of the
-/// words, are answered without memory, and then nothing is asked of `inputs`, `out` and `disk`. The disk is the store that the
-/// words name; words that name none, or `none`, ask nothing of it.
+/// Does what the words after the program's name ask for, and gives the exit status. Where it is not
+/// 0, `notes` get the line that says why; a line that fails leaves the status. Words that mean
+/// nothing, and guards that are not those of the words, are answered without memory, and then
+/// nothing is asked of `inputs`, `out` and `disk`. The disk is the store that the words name; words
+/// that name none, or `none`, ask nothing of it.
 ///
-/// With status 0 `out` took all that is asked for; of `compose` this is one stream that the headline holds of, and of `export` streams
-/// that every receiver of the files takes, the real `btrfs receive` among them, and of which the headline holds as it does of the files.
-/// Where there was
-/// memory, no count of faults or of ends rose, no file is too long and there is not too much to write anew, the answer is the one that
-/// is due by the words, the files and the image that the disk had: the status is 0 if all
-/// commands of the files are lawful, and 1 if not; then the note names the first that is unlawful. Status 13, of a file that was
-/// changed, comes only where the count of ends rose, and its note names the file and the place of the end that the inputs
-/// answered last. It and 9, of too much to write anew, come of `compose` alone. Statuses 5, 6, 8, 10, 12 and 14 come only of words that
-/// are answered by the store, whether or not anything tells its bytes: 6 of all but `init`, 8 of `show`, `cat` and `drop`, 10 of `receive`
-/// and `drop`, 12 of `init`, 14 of `scrub`. 7, of too little memory, never comes of `init`, which asks nothing of `inputs` and `out`. The
-/// other words over a store that name no file ask nothing of `inputs`, and `drop` asks nothing of `out`.
+/// With status 0 `out` took all that is asked for; of `compose` this is one stream that the
+/// headline holds of, and of `export` streams that every receiver of the files takes, the real
+/// `btrfs receive` among them, and of which the headline holds as it does of the files. Where there
+/// was memory, no count of faults or of ends rose, no file is too long and there is not too much to
+/// write anew, the answer is the one that is due by the words, the files and the image that the
+/// disk had: the status is 0 if all commands of the files are lawful, and 1 if not; then the note
+/// names the first that is unlawful. Status 13, of a file that was changed, comes only where the
+/// count of ends rose, and its note names the file and the place of the end that the inputs
+/// answered last. It and 9, of too much to write anew, come of `compose` alone. Statuses 5, 6, 8,
+/// 10, 12 and 14 come only of words that are answered by the store, whether or not anything tells
+/// its bytes: 6 of all but `init`, 8 of `show`, `cat` and `drop`, 10 of `receive` and `drop`, 12 of
+/// `init`, 14 of `scrub`. 7, of too little memory, never comes of `init`, which asks nothing of
+/// `inputs` and `out`. The other words over a store that name no file ask nothing of `inputs`, and
+/// `drop` asks nothing of `out`.
 ///
-/// Files are read once, from their fronts on and in their order, so a pipe serves; `interleave` reads each of its files once, in turns.
-/// `compose` reads its files twice, and ranges of their data again.
+/// Files are read once, from their fronts on and in their order, so a pipe serves; `interleave`
+/// reads each of its files once, in turns. `compose` reads its files twice, and ranges of their
+/// data again.
 pub fn run<I: Inputs, O: Sink, N: Sink, D: Disk>(
     alloc: Global,
     words: &[String],
@@ -54,80 +66,33 @@ pub fn run<I: Inputs, O: Sink, N: Sink, D: Disk>(
     notes: &mut N,
     disk: &mut D,
 ) -> u8
-    ensures usage { (result ≡ 2)
-        ↔ AskNothing (map string_bytes words.now) (map (λ g. kept g) guards.items) }
-    ensures untouched { result ≡ 2 →
-        (inputs.new ≡ inputs.old) × (out.new ≡ out.old) × (disk.new ≡ disk.old) }
-    ensures same { I.told inputs.new ≡ I.told inputs.old }
-    ensures files_read { (request : requests.Request)
-        → Asks (map string_bytes words.now) (map (λ g. kept g) guards.items) request
-        → AskedOnly I.Inputs inputs.old inputs.new
-        (FilesRead (I.told inputs.old) request (map string_bytes words.now)) }
-    ensures read_whole { result ≡ 0 → I.faults inputs.new ≡ I.faults inputs.old }
-    ensures ends_met { result ≡ 0 → I.ends inputs.new ≡ I.ends inputs.old }
-    ensures written { result ≡ 0 → O.faults out.new ≡ O.faults out.old }
-    ensures stored { result ≡ 0 → D.faults disk.new ≡ D.faults disk.old }
-    ensures input_fault { result ≡ 3 → Rose (I.faults inputs.old) (I.faults inputs.new) }
-    ensures output_fault { result ≡ 4 → Rose (O.faults out.old) (O.faults out.new) }
-    ensures store_fault { result ≡ 5 → Rose (D.faults disk.old) (D.faults disk.new) }
-    ensures changed { result ≡ 13 → Rose (I.ends inputs.old) (I.ends inputs.new) }
-    ensures of_compose { (result ≡ 9) ⊎ (result ≡ 13)
-        → AskToCompose (map string_bytes words.now) (map (λ g. kept g) guards.items) }
-    ensures of_store { IsStoreStatus result
-        → AskForStore (map string_bytes words.now) (map (λ g. kept g) guards.items) }
-    ensures composed { result ≡ 0
-        → Composes D.tells (map string_bytes words.now) (map (λ g. kept g) guards.items)
-        (outside (I.told inputs.old) (D.seen disk.old) (O.taken out.old) (O.taken out.new)) }
-    ensures refused { result ≡ 1
-        → ComposesFront D.tells (map string_bytes words.now) (map (λ g. kept g) guards.items)
-        (outside (I.told inputs.old) (D.seen disk.old) (O.taken out.old) (O.taken out.new)) }
-    ensures exported { result ≡ 0
-        → Exports D.tells (map string_bytes words.now) (map (λ g. kept g) guards.items)
-        (outside (I.told inputs.old) (D.seen disk.old) (O.taken out.old) (O.taken out.new)) }
-    ensures sent { result ≡ 0 → Sends D.tells (map string_bytes words.now)
-        (map (λ g. kept g) guards.items) (D.seen disk.old) (O.taken out.old) (O.taken out.new) }
-    ensures in_part { (result ≡ 0 → ⊥) → D.tells → (request : requests.Request)
-        → Asks (map string_bytes words.now) (map (λ g. kept g) guards.items) request
-        → SendsInPart request (map string_bytes words.now) (D.seen disk.old)
-        (O.taken out.old) (O.taken out.new) }
-    ensures answered { (answer : meant.Answer)
-        × IsAnswered D.tells (map string_bytes words.now) (map (λ g. kept g) guards.items)
-        (outside (I.told inputs.old) (D.seen disk.old) (O.taken out.old) (O.taken out.new))
-        (D.seen disk.new) answer
-        × IsGiven answer (N.taken notes.old) (N.taken notes.new)
-        (N.faults notes.old) (N.faults notes.new) result
-        × IsChangedAt (map string_bytes words.now) (map (λ g. kept g) guards.items)
-        (I.last_end inputs.new) answer
-        × IsAllowed (map string_bytes words.now) (map (λ g. kept g) guards.items) answer }
-    ensures quiet { result ≡ 0 → notes.new ≡ notes.old }
-    ensures off_disk { ((request : requests.Request)
-        → Asks (map string_bytes words.now) (map (λ g. kept g) guards.items) request
-        → uses_store (map string_bytes words.now) request ≡ false) → disk.new ≡ disk.old }
-    ensures unread { ((request : requests.Request)
-        → Asks (map string_bytes words.now) (map (λ g. kept g) guards.items) request
-        → ReadsFiles request → ⊥) → inputs.new ≡ inputs.old }
-    ensures silent { ((request : requests.Request)
-        → Asks (map string_bytes words.now) (map (λ g. kept g) guards.items) request
-        → Prints request → ⊥) → out.new ≡ out.old }
-    ensures unharmed { D.tells → ((request : requests.Request)
-        → Asks (map string_bytes words.now) (map (λ g. kept g) guards.items) request
-        → ReadsOnly request) → D.seen disk.new ≡ D.seen disk.old }
-    ensures any_moment { D.tells → (request : requests.Request)
-        → Asks (map string_bytes words.now) (map (λ g. kept g) guards.items) request
-        → AtAnyMoment (I.told inputs.old) request (map string_bytes words.now)
-        (D.pending disk.old) (D.seen disk.old)
-        (LeavesOnly D.moment D.left_since disk.old disk.new) }
-    ensures durable { result ≡ 0 → D.tells → (request : requests.Request)
-        → Asks (map string_bytes words.now) (map (λ g. kept g) guards.items) request
-        → IfMadeOrDropped request (D.pending disk.new ≡ settled (D.seen disk.new)) }
-    ensures acknowledged { D.tells
-        → Acknowledges (map string_bytes words.now) (map (λ g. kept g) guards.items)
-        (outside (I.told inputs.old) (D.seen disk.old) (O.taken out.old) (O.taken out.new))
-        (D.pending disk.old) (D.pending disk.new) }
-    ensures acknowledged_in_turn { D.tells
-        → AcknowledgesInTurn (map string_bytes words.now) (map (λ g. kept g) guards.items)
-        (outside (I.told inputs.old) (D.seen disk.old) (O.taken out.old) (O.taken out.new))
-        (D.pending disk.old) (D.pending disk.new) }
+    ensures usage { MeansNothing (run_of (map string_bytes words.now)
+        (map (λ g. kept g) guards.items) result I.Inputs inputs.old inputs.new O.Sink out.old out.new
+        N.Sink notes.old notes.new D.Disk disk.old disk.new) }
+    ensures touches { Touches (run_of (map string_bytes words.now)
+        (map (λ g. kept g) guards.items) result I.Inputs inputs.old inputs.new O.Sink out.old out.new
+        N.Sink notes.old notes.new D.Disk disk.old disk.new) }
+    ensures caused { IsCaused (run_of (map string_bytes words.now)
+        (map (λ g. kept g) guards.items) result I.Inputs inputs.old inputs.new O.Sink out.old out.new
+        N.Sink notes.old notes.new D.Disk disk.old disk.new) }
+    ensures answered { Answers (run_of (map string_bytes words.now)
+        (map (λ g. kept g) guards.items) result I.Inputs inputs.old inputs.new O.Sink out.old out.new
+        N.Sink notes.old notes.new D.Disk disk.old disk.new) }
+    ensures composed { IsMerged (run_of (map string_bytes words.now)
+        (map (λ g. kept g) guards.items) result I.Inputs inputs.old inputs.new O.Sink out.old out.new
+        N.Sink notes.old notes.new D.Disk disk.old disk.new) }
+    ensures exported { IsExported (run_of (map string_bytes words.now)
+        (map (λ g. kept g) guards.items) result I.Inputs inputs.old inputs.new O.Sink out.old out.new
+        N.Sink notes.old notes.new D.Disk disk.old disk.new) }
+    ensures sent { IsSent (run_of (map string_bytes words.now)
+        (map (λ g. kept g) guards.items) result I.Inputs inputs.old inputs.new O.Sink out.old out.new
+        N.Sink notes.old notes.new D.Disk disk.old disk.new) }
+    ensures crash_safe { IsCrashSafe (run_of (map string_bytes words.now)
+        (map (λ g. kept g) guards.items) result I.Inputs inputs.old inputs.new O.Sink out.old out.new
+        N.Sink notes.old notes.new D.Disk disk.old disk.new) }
+    ensures acknowledged { IsAcknowledged (run_of (map string_bytes words.now)
+        (map (λ g. kept g) guards.items) result I.Inputs inputs.old inputs.new O.Sink out.old out.new
+        N.Sink notes.old notes.new D.Disk disk.old disk.new) }
 {
     let mut guards = guards;
     let answer = answer_to(alloc, words, &mut guards, inputs, out, disk);
@@ -152,7 +117,7 @@ fn answer_to<I: Inputs, O: Sink, D: Disk>(
         → Asks (map string_bytes words.now) (map (λ g. kept g) guards.old) request
         → AskedOnly I.Inputs inputs.old inputs.new
         (FilesRead (I.told inputs.old) request (map string_bytes words.now)) }
-    ensures caused { IsCaused (AreSteady (I.faults inputs.old) (I.faults inputs.new)
+    ensures caused { run.IsCaused (AreSteady (I.faults inputs.old) (I.faults inputs.new)
         (I.ends inputs.old) (I.ends inputs.new) (O.faults out.old) (O.faults out.new)
         × (D.faults disk.new ≡ D.faults disk.old))
         (Rose (I.faults inputs.old) (I.faults inputs.new))
@@ -187,9 +152,13 @@ fn answer_to<I: Inputs, O: Sink, D: Disk>(
     ensures off_disk { ((request : requests.Request)
         → Asks (map string_bytes words.now) (map (λ g. kept g) guards.old) request
         → uses_store (map string_bytes words.now) request ≡ false) → disk.new ≡ disk.old }
+    ensures made { (of : streams.Request)
+        → Asks (map string_bytes words.now) (map (λ g. kept g) guards.old) (OfStore (OfStreams of))
+        → IsMade of → IsMadeAnswer (answer_of result) }
     ensures unread { ((request : requests.Request)
         → Asks (map string_bytes words.now) (map (λ g. kept g) guards.old) request
-        → ReadsFiles request → ⊥) → inputs.new ≡ inputs.old }
+        → (profile (values_of (map string_bytes words.now) request)).how ≡ NoFiles)
+        → inputs.new ≡ inputs.old }
     ensures silent { ((request : requests.Request)
         → Asks (map string_bytes words.now) (map (λ g. kept g) guards.old) request
         → Prints request → ⊥) → out.new ≡ out.old }

@@ -2,7 +2,7 @@
 ghost use Rattle.std.specs.Prelude.{◌≡◌, ◌≤◌, length, drop, map, option_map, IfSome, is_some};
 ghost use Rattle.std.specs.String.{string_bytes};
 ghost use Rattle.store_model.specs.Turns.{is_turn, schedule_of};
-ghost use Rattle.word_model.specs.AllRequests.{TurnFiles, of_turns, turn_files};
+ghost use Rattle.program_model.specs.AllRequests.{TurnFiles, of_turns, turn_files};
 ghost use Rattle.send_top.specs.Requests.{request_meant, IsWithin, WordsFit};
 
 use crate::words::{Request, StoreRequest, is_guard_word};
@@ -32,8 +32,8 @@ pub(crate) fn read_interleave(words: &[String]) -> Option<Request>
     }))
 }
 
-// How many files there are among words: the others are guards of the file behind them. None where a guard word means no guard, or there is
-// no file behind it.
+// How many files there are among words: the others are guards of the file behind them. None where a
+// guard word means no guard, or there is no file behind it.
 fn files_in(words: &[String]) -> Option<usize>
     ensures { result ≡ option_map (λ turns. length turns.files)
         (turn_files (map string_bytes words.now)) }

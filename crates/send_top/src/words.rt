@@ -5,8 +5,8 @@ ghost use Rattle.std.specs.String.{string_bytes};
 ghost use Rattle.send_model.specs.Guards.{is_guard_word};
 ghost use Rattle.send_model.specs.Words.{Compose, Dump, Export, Gen, Trial, store_and_files, one_file, guards_and_files, count_and_seed};
 ghost use Rattle.store_model.specs.Requests.{InitStore, DropEntry, ListStore, ShowEntry, CatFile, ScrubStore, of_one, of_two, of_three, as_receive, word_at};
-ghost use Rattle.word_model.specs.NameWords.{given_from, names_stand};
-ghost use Rattle.word_model.specs.AllRequests.{request_of, request_read, request_named_at, SendEntry, RestoreEntry, store_and_name};
+ghost use Rattle.program_model.specs.FileWords.{given_in, names_stand};
+ghost use Rattle.program_model.specs.AllRequests.{request_of, request_read, request_named_at, SendEntry, RestoreEntry, store_and_name};
 ghost use Rattle.send_top.specs.Requests.{request_meant, of_stored, of_streams, IsWithin, WordsFit};
 ghost use Rattle.send_top.specs.AuditWords.{HasStore};
 
@@ -31,14 +31,17 @@ pub enum StreamsRequest {
     Compose {
         /// The place of the store.
         store: usize,
-        /// The place of the first word behind the store. All words from there on are files and their names.
+        /// The place of the first word behind the store. All words from there on are files and
+        /// their names.
         files: usize,
     },
-    /// The streams of some files are to be checked over a store. Guard words stand between the first word and the store.
+    /// The streams of some files are to be checked over a store. Guard words stand between the
+    /// first word and the store.
     Audit {
         /// The place of the store.
         store: usize,
-        /// The place of the first word behind the store. All words from there on are files and their names.
+        /// The place of the first word behind the store. All words from there on are files and
+        /// their names.
         files: usize,
     },
     /// The commands of a file are to be printed.
@@ -46,7 +49,8 @@ pub enum StreamsRequest {
         /// The place of the file.
         file: usize,
     },
-    /// The streams of some files are to be written as the real receiver makes them right, over a store.
+    /// The streams of some files are to be written as the real receiver makes them right, over a
+    /// store.
     Export {
         /// The place of the store.
         store: usize,
@@ -84,11 +88,13 @@ pub enum StoreRequest {
         /// The place of the entry's name.
         name: usize,
     },
-    /// The streams of some files are to be received into a store. Guard words stand between the first word and the store.
+    /// The streams of some files are to be received into a store. Guard words stand between the
+    /// first word and the store.
     Receive {
         /// The place of the store.
         store: usize,
-        /// The place of the first word behind the store. All words from there on are files and their names.
+        /// The place of the first word behind the store. All words from there on are files and
+        /// their names.
         files: usize,
     },
     /// The entries of a store are to be listed.
@@ -131,13 +137,15 @@ pub enum StoreRequest {
         /// The place of the subvolume's name.
         name: usize,
     },
-    /// The streams of some files are to be received into a store in turns. In front of each file stand its guard words.
+    /// The streams of some files are to be received into a store in turns. In front of each file
+    /// stand its guard words.
     Interleave {
         /// The place of the store.
         store: usize,
         /// The place of the schedule.
         schedule: usize,
-        /// The place of the first word behind it. All words from there on are files and their guards.
+        /// The place of the first word behind it. All words from there on are files and their
+        /// guards.
         turns: usize,
     },
 }
@@ -148,8 +156,9 @@ pub(crate) const NO_STORE: &str = "none";
 // The most parts of a chain.
 const MOST_PARTS: u64 = 4_096;
 
-/// What the words after the program's name ask for; `None` exactly where they mean nothing. Takes no memory.
-#[tactic(auto, unfolding(word_model::specs::AllRequests::request_of))]
+/// What the words after the program's name ask for; `None` exactly where they mean nothing. Takes
+/// no memory.
+#[tactic(auto, unfolding(program_model::specs::AllRequests::request_of))]
 pub fn read_words(words: &[String]) -> Option<Request>
     ensures meaning { option_map (request_meant (map string_bytes words.now)) result
         ≡ request_of (map string_bytes words.now) }
@@ -180,7 +189,7 @@ fn names_stand(words: &[String], request: Request) -> bool
 // Whether the words from a place on are files with their names.
 fn stand_from(words: &[String], place: usize) -> bool
     requires within { place < length words.now }
-    ensures { result ≡ is_some (given_from None (drop place (map string_bytes words.now))) }
+    ensures { result ≡ is_some (given_in (drop place (map string_bytes words.now))) }
 {
     are_given(&words[place..])
 }
@@ -212,7 +221,7 @@ fn named_at(request: Request) -> Option<usize>
 }
 
 // What the words ask for, whether or not the names among them stand with files.
-#[tactic(auto, unfolding(send_model::specs::Words::request_of, store_model::specs::Requests::request_of, store_model::specs::Requests::over_store, word_model::specs::AllRequests::request_read, word_model::specs::AllRequests::of_subvolumes))]
+#[tactic(auto, unfolding(send_model::specs::Words::request_of, store_model::specs::Requests::request_of, store_model::specs::Requests::over_store, program_model::specs::AllRequests::request_read, program_model::specs::AllRequests::of_subvolumes))]
 fn read_request(words: &[String]) -> Option<Request>
     ensures meaning { option_map (request_meant (map string_bytes words.now)) result
         ≡ request_read (map string_bytes words.now) }
@@ -270,7 +279,8 @@ fn read_audit(words: &[String]) -> Option<Request>
     Some(Request::Streams(StreamsRequest::Audit { store, files }))
 }
 
-// The place of the store behind the guard words. None where a guard word means no guard, or there is no store.
+// The place of the store behind the guard words. None where a guard word means no guard, or there
+// is no store.
 fn store_place(words: &[String]) -> Option<usize>
     requires some { 1 ≤ length words.now }
     ensures found { IfSome result (HasStore (map string_bytes words.now)) }

@@ -9,7 +9,8 @@ use Rattle.shared_map.specs.Edited.{IsEdited}
 use Rattle.shared_map.proofs.Lists.{split_at, set_at}
 use Rattle.shared_map.proofs.Parts.{IsPart, put_found}
 
--- the same by what becomes of the value and of the edit, the map before and after, and the edit before and after
+-- the same by what becomes of the value and of the edit, the map before and after, and the edit
+-- before and after
 abbrev pub IsChanged : {K V E : Type 0} → (become : V → V) (left : V → E) (was : Option V) (put : V → Map K V) (old new : Map K V) (before after : E) (there : Bool) → Type 0
 IsChanged become left was put old new before after there = IsEdited (λ value. (become value, left value)) was put (old, before) (new, after) there
 

@@ -57,7 +57,8 @@ pub record IsThere {K V : Type 0} (order : K → K → Ordering) (key : K) (page
   pub in_range : page < length pages
   pub here : IsAt order key (slice_index_or pages page []) place
 
--- The key has no entry, and a new one would go to a place of a page. Where there are no pages, it would begin the first.
+-- The key has no entry, and a new one would go to a place of a page. Where there are no pages, it
+-- would begin the first.
 pub record IsFree {K V : Type 0} (order : K → K → Ordering) (key : K) (pages : List (Map K V)) (page place : ℕ) : Type 0 where
   pub home : IsHome order key pages page
   pub gap : page < length pages → IsGap order key (slice_index_or pages page []) place
@@ -92,7 +93,8 @@ pub record IsSetAt {K V : Type 0} (old new : Map K V) (i : ℕ) (value : V) : Ty
   pub before : old ≡ take i old ++ (key, was) ∷ drop (i + 1) old
   pub made : new ≡ take i old ++ (key, value) ∷ drop (i + 1) old
 
--- The value of the entry at place i becomes another one, its key stays, and the edit is what it becomes by the value that was there.
+-- The value of the entry at place i becomes another one, its key stays, and the edit is what it
+-- becomes by the value that was there.
 pub record IsEditedAt {K V E : Type 0} (become : V → V) (left : V → E) (old new : Map K V) (after : E) (i : ℕ) : Type 0 where
   pub key : K
   pub was : V

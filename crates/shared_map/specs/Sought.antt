@@ -1,4 +1,5 @@
--- The entry behind a key. Source: this project; `value_at`, `with_value` and `without` are the definitions' words for maps.
+-- The entry behind a key. Source: this project; `value_at`, `with_value` and `without` are the
+-- definitions' words for maps.
 use Rattle.std.specs.Prelude.{Option, slice_get}
 use Rattle.std.specs.Ordering.{is_lt}
 use Rattle.std.specs.declared.cmp.Ordering.{Ordering}

@@ -31,8 +31,8 @@ fn copied<K: Key, V: Copied>(alloc: Global, entries: &[(K, V)]) -> Result<Vec<(K
     Ok(copies)
 }
 
-// Moves the entries from `at` on into a block of their own, which has room for more. All memory that this needs is taken before
-// they move.
+// Moves the entries from `at` on into a block of their own, which has room for more. All memory
+// that this needs is taken before they move.
 fn moved<K: Key, V: Copied>(
     alloc: Global,
     entries: &mut Vec<(K, V)>,
@@ -112,7 +112,8 @@ impl<K: Key, V: Copied> Block<K, V> {
         }
     }
 
-    // Takes the entries from `at` on out, as a block of their own. They are moved, where nothing shares them.
+    // Takes the entries from `at` on out, as a block of their own. They are moved, where nothing
+    // shares them.
     pub(crate) fn split_off(&mut self, alloc: Global, at: usize) -> Result<Block<K, V>, AllocError>
         requires { at ≤ length self.old }
         ensures low { OnOk result (self.new ≡ take at self.old) }

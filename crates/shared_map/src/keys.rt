@@ -24,8 +24,9 @@ pub trait Key: Drop {
     fn copy_key(&self) -> Result<Self, AllocError>
         ensures { IfOk result (λ copy. copy ≡ self.now) };
 
-    /// How many entries a page of a map with such keys has at most. Splitting and merging keep to it where there is memory, and no
-    /// contract rests on it. A change moves the entries of a page, and a copy of a map takes memory for each page.
+    /// How many entries a page of a map with such keys has at most. Splitting and merging keep to
+    /// it where there is memory, and no contract rests on it. A change moves the entries of a page,
+    /// and a copy of a map takes memory for each page.
     fn most_entries() -> usize;
 
     ghost total: { IsTotalOrder order };
@@ -53,7 +54,8 @@ pub trait Edit<V: Drop>: Drop {
     /// What the edit itself becomes, by the value as it was.
     ghost left: { Self → V → Self };
 
-    /// Changes the value. Fails for want of memory alone, and then nothing is said of the value or of the edit.
+    /// Changes the value. Fails for want of memory alone, and then nothing is said of the value or
+    /// of the edit.
     fn edit(&mut self, value: &mut V) -> Result<(), AllocError>
         ensures value { OnOk result (value.new ≡ edited self.old value.old) }
         ensures edit { OnOk result (self.new ≡ left self.old value.old) };

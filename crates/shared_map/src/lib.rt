@@ -1,5 +1,5 @@
-//! An ordered map whose copies share their entries: a copy costs a hundredth of the entries and takes no entry's memory, and a
-//! change of what is shared copies one small page.
+//! An ordered map whose copies share their entries: a copy costs a hundredth of the entries and
+//! takes no entry's memory, and a change of what is shared copies one small page.
 #![tactic(auto)]
 
 mod block;

@@ -13,7 +13,8 @@ use crate::place::{Spot, home, past, seek};
 use std::alloc::{AllocError, Global};
 use std::marker::Model;
 
-/// An ordered map, seen as the list of its entries in rising order of their keys. Copies share their entries.
+/// An ordered map, seen as the list of its entries in rising order of their keys. Copies share
+/// their entries.
 #[derive(Debug, Drop)]
 pub struct SharedMap<K: Key, V: Copied> {
     pages: Vec<Page<K, V>>,
@@ -125,8 +126,8 @@ impl<K: Key, V: Copied> SharedMap<K, V> {
         }
     }
 
-    /// Sets the value at a key that has none, and says whether it had none; where the key has a value nothing changes. Fails for
-    /// want of memory alone, and then nothing changes.
+    /// Sets the value at a key that has none, and says whether it had none; where the key has a
+    /// value nothing changes. Fails for want of memory alone, and then nothing changes.
     pub fn insert_new<Q: Sought<K>>(&mut self, query: &Q, value: V) -> Result<bool, AllocError>
         ensures ok { IfOk result (λ fresh. PutsNew (value_at K.order (Q.sought query.now) self.old)
             (with_value K.order (Q.sought query.now) value self.old) self.old self.new fresh) }
@@ -142,8 +143,9 @@ impl<K: Key, V: Copied> SharedMap<K, V> {
         }
     }
 
-    /// Changes the value at a key where it stands, and says whether there is one; where there is none nothing changes. A page that
-    /// is shared is copied first. Fails for want of memory alone, and then nothing is said of the values or of the edit.
+    /// Changes the value at a key where it stands, and says whether there is one; where there is
+    /// none nothing changes. A page that is shared is copied first. Fails for want of memory alone,
+    /// and then nothing is said of the values or of the edit.
     pub fn edit<Q: Sought<K>, E: Edit<V>>(
         &mut self,
         query: &Q,
@@ -164,8 +166,8 @@ impl<K: Key, V: Copied> SharedMap<K, V> {
         Ok(true)
     }
 
-    /// Takes out the entry of a key, if there is one, and hands over its value. Fails for want of memory alone, and then
-    /// nothing changes.
+    /// Takes out the entry of a key, if there is one, and hands over its value. Fails for want of
+    /// memory alone, and then nothing changes.
     pub fn remove<Q: Sought<K>>(&mut self, query: &Q) -> Result<Option<V>, AllocError>
         ensures ok { OnOk result (self.new ≡ without K.order (Q.sought query.now) self.old) }
         ensures was { IfOk result (λ was. was ≡ value_at K.order (Q.sought query.now) self.old) }

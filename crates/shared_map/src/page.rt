@@ -8,8 +8,8 @@ use crate::keys::{Copied, Edit, Key};
 use std::alloc::{AllocError, Global};
 use std::marker::Model;
 
-// A run of one entry or more, which copies share. The first key stands beside it once more, so that the search for a page follows
-// no pointer.
+// A run of one entry or more, which copies share. The first key stands beside it once more, so that
+// the search for a page follows no pointer.
 #[derive(Debug, Drop)]
 pub(crate) struct Page<K, V> {
     first: K,

@@ -50,7 +50,8 @@ pub(crate) fn home<K: Key, V: Copied, Q: Sought<K>>(pages: &[Page<K, V>], query:
     if after == 0 { 0 } else { after - 1 }
 }
 
-// Where the entry of the key stands, or where it would go. Where there are no pages, that is in none of them.
+// Where the entry of the key stands, or where it would go. Where there are no pages, that is in
+// none of them.
 #[inline]
 pub(crate) fn seek<K: Key, V: Copied, Q: Sought<K>>(
     pages: &[Page<K, V>],

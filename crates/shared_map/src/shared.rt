@@ -35,8 +35,9 @@ impl<T: Drop> Shared<T> {
         &self.rc
     }
 
-    /// Changes the value, and says whether it had to be copied for that, since something else shares it. Fails for want of memory
-    /// alone, and then nothing is said of the value or of the edit.
+    /// Changes the value, and says whether it had to be copied for that, since something else
+    /// shares it. Fails for want of memory alone, and then nothing is said of the value or of the
+    /// edit.
     pub fn edit<E: Edit<T>>(&mut self, alloc: Global, edit: &mut E) -> Result<bool, AllocError>
     where
         T: Copied,
@@ -66,7 +67,8 @@ impl<T: Drop> Copied for Shared<T> {
     }
 }
 
-/// An edit of a value that may be shared, seen as the edit of the value itself. It tells whether the value had to be copied.
+/// An edit of a value that may be shared, seen as the edit of the value itself. It tells whether
+/// the value had to be copied.
 #[derive(Debug, Drop)]
 pub struct InShared<E> {
     edit: E,

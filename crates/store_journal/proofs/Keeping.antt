@@ -16,15 +16,15 @@ use Rattle.group_log.specs.State.{LogState}
 use Rattle.group_log.specs.Journal.{Rests, Grows}
 use Rattle.clone_resolve.specs.Heads.{Begins}
 use Rattle.store_model.specs.Stored.{Content, Mark, Body, Drop, Group, body_bytes, IsEdit, IsContent, IsGroup, body_at, frames_at, taken, resumed, edits_made, dropped, made, Makes}
-use Rattle.store_groups.specs.declared.place.Place.{Place}
+use Rattle.group_replay.specs.declared.place.Place.{Place}
 use Rattle.store_journal.specs.Shown.{StoreState}
 use Rattle.store_journal.specs.Holding.{bodies_of, new_group, edits_head, HasOneMore, Holds}
 use Rattle.store_journal.proofs.Unpacked.{Builds}
-use Rattle.store_groups.specs.Taking.{as_runs, open_state}
+use Rattle.group_replay.specs.Taking.{as_runs, open_state}
 use Rattle.store_journal.proofs.Pushes.{bodies_push, all_push, canonical_push, makes_push, edits_push}
-use Rattle.store_groups.specs.Kept.{IsKept, AreKept}
-use Rattle.store_groups.proofs.Beginning.{begun_marks, begun_resumes}
-use Rattle.store_groups.proofs.KeptParts.{begun_kept, unfinished_kept}
+use Rattle.group_replay.specs.Kept.{IsKept, AreKept}
+use Rattle.group_replay.proofs.Beginning.{begun_marks, begun_resumes}
+use Rattle.group_replay.proofs.KeptParts.{begun_kept, unfinished_kept}
 
 module _ (header : Header) (groups : List Group) where
   -- the bodies of one group more

@@ -17,8 +17,8 @@ use Rattle.group_log.specs.declared.journal.GroupPlace.{GroupPlace}
 use Rattle.group_log.specs.declared.stops.LogStop.{LogStop}
 use Rattle.group_log.specs.declared.stops.LogStop.TheVariants.{DiskFault, NotStore, LogFull, StoreThere}
 use Rattle.group_log.proofs.GatedGroups.{front_push}
-use Rattle.store_groups.specs.declared.place.Place.{Place}
-use Rattle.store_groups.specs.Taking.{as_runs, TakesGroup}
+use Rattle.group_replay.specs.declared.place.Place.{Place}
+use Rattle.group_replay.specs.Taking.{as_runs, TakesGroup}
 use Rattle.store_journal.specs.Holding.{bodies_of}
 use Rattle.store_journal.specs.Opening.{NamesFault}
 use Rattle.store_journal.proofs.Pushes.{bodies_push, makes_push}

@@ -19,9 +19,9 @@ use Rattle.extent_map.specs.Cells.{cells_between}
 use Rattle.extent_map.specs.Pieces.{piece_cells}
 use Rattle.extent_map.proofs.Layouts.{length-piece, get_or-run}
 use Rattle.extent_map.proofs.PieceByPiece.{run_bytes, hole_bytes}
-use Rattle.store_groups.specs.declared.place.Place.{Place}
-use Rattle.store_groups.specs.Placing.{further}
-use Rattle.store_groups.specs.Kept.{StandsBefore, IsKept, AreKept}
+use Rattle.group_replay.specs.declared.place.Place.{Place}
+use Rattle.group_replay.specs.Placing.{further}
+use Rattle.group_replay.specs.Kept.{StandsBefore, IsKept, AreKept}
 use Rattle.store_journal.specs.Standing.{place_byte, with_bytes}
 use Rattle.store_journal.specs.Reading.{file_cells}
 

@@ -6,9 +6,9 @@ use Rattle.send_model.specs.Subvolume.{Subvolume}
 use Rattle.send_model.specs.Store.{Head, Part, Store}
 use Rattle.clone_resolve.specs.Heads.{Begins}
 use Rattle.group_log.specs.declared.stops.LogStop.{LogStop}
-use Rattle.store_groups.specs.declared.stops.StoreStop.{StoreStop}
-use Rattle.store_groups.specs.declared.stops.StoreStop.TheVariants as stop
-use Rattle.store_groups.specs.Stopping.{IsNoRefusal}
+use Rattle.group_replay.specs.declared.stops.StoreStop.{StoreStop}
+use Rattle.group_replay.specs.declared.stops.StoreStop.TheVariants as stop
+use Rattle.group_replay.specs.Stopping.{IsNoRefusal}
 use Rattle.store_journal.specs.Answers.{BeginsIn, EditsIn}
 
 pub stopped_edits : {C : Type 0} (A : Type 0) (why : StoreStop) (old new : Part C) (said : Result (Subvolume C) meant.Refusal) → IsNoRefusal why → said ≡ Ok new.subvolume → EditsIn {A = A} (Err why) old new said

@@ -13,9 +13,9 @@ use Rattle.store_model.proofs.CellRuns.{made-cells, made_all-cells, all_put_same
 use Rattle.store_model.proofs.OneStore.{one_store}
 use Rattle.store_model.proofs.PlacedBytes.{groups_here, places_stand}
 use Rattle.group_log.proofs.GatedGroups.{has_closed, rests_has, grows_has}
-use Rattle.store_groups.specs.declared.place.Place.{Place}
-use Rattle.store_groups.specs.Placing.{further}
-use Rattle.store_groups.specs.Taking.{as_runs}
+use Rattle.group_replay.specs.declared.place.Place.{Place}
+use Rattle.group_replay.specs.Placing.{further}
+use Rattle.group_replay.specs.Taking.{as_runs}
 use Rattle.store_journal.specs.Holding.{bodies_of, Holds}
 use Rattle.store_journal.specs.Shown.{StoreState}
 use Rattle.sx_base.specs.Disk.{Pending}

@@ -1,4 +1,5 @@
--- A call that stops though the disk did not fail has left the groups that there were; and a group that has no room was never there.
+-- A call that stops though the disk did not fail has left the groups that there were; and a group
+-- that has no room was never there.
 use Rattle.std.specs.Prelude.{◌≡◌, ℕ, ◌<◌, ◌≤◌, Bool, true, false, List, ◌++◌, Option, None, Some, IfSome, nat_lt}
 use Rattle.std.proofs.Common.{refl, sym, subst}
 use Rattle.std.proofs.lemmas.Bool.{ltb-true, ltb-false}

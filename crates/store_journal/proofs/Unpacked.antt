@@ -5,7 +5,7 @@ use Rattle.send_model.specs.Store.{Part}
 use Rattle.store_model.specs.Image.{Header}
 use Rattle.store_model.specs.Stored.{Group}
 use Rattle.sx_base.specs.Disk.{Pending}
-use Rattle.store_groups.specs.declared.place.Place.{Place}
+use Rattle.group_replay.specs.declared.place.Place.{Place}
 use Rattle.store_journal.specs.Shown.{StoreState}
 use Rattle.store_journal.specs.Holding as holding
 

@@ -6,23 +6,28 @@ use Rattle.send_model.specs.Store.{Head, Part, Store, begun, unfinished}
 use Rattle.sx_base.specs.Refusals.{refusal_of}
 use Rattle.group_log.specs.declared.stops.LogStop.{LogStop}
 use Rattle.group_log.specs.declared.stops.LogStop.TheVariants as log
-use Rattle.store_groups.specs.declared.stops.StoreStop.{StoreStop}
-use Rattle.store_groups.specs.declared.stops.StoreStop.TheVariants as stop
+use Rattle.group_replay.specs.declared.stops.StoreStop.{StoreStop}
+use Rattle.group_replay.specs.declared.stops.StoreStop.TheVariants as stop
 use Rattle.store_model.specs.Stored.{Group, Drop}
 use Rattle.store_journal.specs.Filling.{Asked}
 use Rattle.store_journal.specs.Holding.{new_group}
 
 -- A head begins an entry and its part, or it is refused. Where the journal stops it is not refused.
 abbrev pub BeginsIn : {C : Type 0} → Result (Part C) StoreStop → Head → Store C → Store C → Type 0
-BeginsIn (Ok part) head old new = (begun old head ≡ Ok part.subvolume) × (part.key ≡ head.key) × (new ≡ old ++ unfinished head ∷ [])
+BeginsIn (Ok part) head old new =
+    (begun old head ≡ Ok part.subvolume) × (part.key ≡ head.key)
+    × (new ≡ old ++ unfinished head ∷ [])
 BeginsIn (Err (stop.Refused refusal)) head old new = begun old head ≡ Err (refusal_of refusal)
 BeginsIn (Err stop.NoMemory) head old new = ⊤
 BeginsIn {C} (Err (stop.Log why)) head old new = (start : Subvolume C) × (begun old head ≡ Ok start)
 
--- An edit changes the part, or it is refused and the part is unchanged. Where the journal stops it is not refused.
-abbrev pub EditsIn : {A C : Type 0} → Result A StoreStop → Part C → Part C → Result (Subvolume C) meant.Refusal → Type 0
+-- An edit changes the part, or it is refused and the part is unchanged. Where the journal stops it
+-- is not refused.
+abbrev pub EditsIn : {A C : Type 0} → Result A StoreStop → Part C → Part C
+    → Result (Subvolume C) meant.Refusal → Type 0
 EditsIn (Ok done) old new said = said ≡ Ok new.subvolume
-EditsIn (Err (stop.Refused refusal)) old new said = (said ≡ Err (refusal_of refusal)) × (new.subvolume ≡ old.subvolume)
+EditsIn (Err (stop.Refused refusal)) old new said =
+    (said ≡ Err (refusal_of refusal)) × (new.subvolume ≡ old.subvolume)
 EditsIn (Err stop.NoMemory) old new said = ⊤
 EditsIn (Err (stop.Log why)) old new said = said ≡ Ok new.subvolume
 
@@ -44,8 +49,8 @@ IfShort (Err (stop.Refused refusal)) P = P
 IfShort (Err stop.NoMemory) P = P
 IfShort (Err (stop.Log why)) P = IfNoFault why P
 
--- What holds where a head stops so, by what its own group meets at the limit: P where that group was not written, Q where it was and
--- the group of the edits did not begin.
+-- What holds where a head stops so, by what its own group meets at the limit: P where that group
+-- was not written, Q where it was and the group of the edits did not begin.
 abbrev pub IfHeadShort : {T : Type 0} → Result T StoreStop → Option Asked → (P Q : Type 0) → Type 0
 IfHeadShort (Ok x) full P Q = ⊤
 IfHeadShort (Err (stop.Refused refusal)) full P Q = P

@@ -13,11 +13,13 @@ pub record Asked : Type 0 where
 -- The first that goes past the limit, with the reserve behind it.
 abbrev pub first_full : ℕ → List Asked → Option Asked
 first_full limit [] = None
-first_full limit (a ∷ more) = if nat_lt limit (a.place + a.wanted + reserve) then Some a else first_full limit more
+first_full limit (a ∷ more) =
+    if nat_lt limit (a.place + a.wanted + reserve) then Some a else first_full limit more
 
 -- What a whole group asks for: its gate and length, and what is put into it.
 abbrev pub group_asks : ℕ → ℕ → List Asked
-group_asks gate len = record { place = gate; wanted = 9 } ∷ record { place = gate + 9; wanted = len } ∷ []
+group_asks gate len =
+    record { place = gate; wanted = 9 } ∷ record { place = gate + 9; wanted = len } ∷ []
 
 -- The gate behind a whole group of so many bytes and their checksum.
 abbrev pub gate_behind : ℕ → ℕ → ℕ
@@ -32,7 +34,8 @@ IsFullAt limit (Some a) why = why ≡ LogFull a.place a.wanted limit
 abbrev pub IsStopOf : Type 0 → ℕ → Option Asked → LogStop → Type 0
 IsStopOf cause limit full why = IsFullAt limit full why ⊎ IsFault cause why
 
--- What a head asks for: a group of so many bytes, and the eighteen bytes in front of a group of edits.
+-- What a head asks for: a group of so many bytes, and the eighteen bytes in front of a group of
+-- edits.
 abbrev pub head_asks : ℕ → ℕ → List Asked
 head_asks gate len = group_asks gate len ++ group_asks (gate_behind gate len) 18
 

@@ -5,8 +5,8 @@ use Rattle.store_model.specs.Image.{Header}
 use Rattle.store_model.specs.Stored.{Group, StandsFor, StandsForNone}
 use Rattle.group_log.specs.declared.stops.LogStop.{LogStop}
 use Rattle.group_log.specs.declared.stops.LogStop.TheVariants.{DiskFault, NotStore, LogFull, StoreThere}
-use Rattle.store_groups.specs.declared.stops.StoreStop.{StoreStop}
-use Rattle.store_groups.specs.declared.stops.StoreStop.TheVariants as stop
+use Rattle.group_replay.specs.declared.stops.StoreStop.{StoreStop}
+use Rattle.group_replay.specs.declared.stops.StoreStop.TheVariants as stop
 use Rattle.store_journal.specs.Shown.{StoreState}
 use Rattle.store_journal.specs.Holding.{Holds}
 use Rattle.store_journal.specs.Standing.{with_bytes}
@@ -18,7 +18,8 @@ NamesFault seen DiskFault = ⊤
 NamesFault seen (LogFull end wanted limit) = ⊤
 NamesFault seen (StoreThere size) = ⊤
 
--- The bytes stand for the subvolumes of the store that opened, or for none, with the fault that is named.
+-- The bytes stand for the subvolumes of the store that opened, or for none, with the fault that is
+-- named.
 abbrev pub OpenSays : List ℕ → Result StoreState StoreStop → Type 0
 OpenSays seen (Ok store) = StandsFor seen (with_bytes seen store.core)
 OpenSays seen (Err (stop.Log why)) = NamesFault seen why

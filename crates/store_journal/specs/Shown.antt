@@ -5,12 +5,12 @@ use Rattle.send_model.specs.Store.{Key, Part, Store}
 use Rattle.group_log.specs.State.{LogState}
 use Rattle.group_log.specs.Journal.{IsAtRest, IsInProgress}
 use Rattle.subvol_catalog.specs.Entries.{key_of}
-use Rattle.store_groups.specs.declared.place.Place.{Place}
-use Rattle.store_groups.specs.Kept.{IsKept, AreKept}
+use Rattle.group_replay.specs.declared.place.Place.{Place}
+use Rattle.group_replay.specs.Kept.{IsKept, AreKept}
 use Rattle.store_journal.specs.declared.store.Store.TheInside.{Inside}
 
--- The subvolumes, over cells that are a place or zero; the journal; the key of the open part, if there is one; and whether the
--- store may still be written to.
+-- The subvolumes, over cells that are a place or zero; the journal; the key of the open part, if
+-- there is one; and whether the store may still be written to.
 pub record StoreState : Type 0 where
   pub core : Store (Option Place)
   pub log : LogState

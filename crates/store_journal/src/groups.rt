@@ -9,14 +9,14 @@ ghost use Rattle.send_commands.specs.Meaning.{meaning_of};
 ghost use Rattle.group_log.specs.Stopping.{IsFault};
 ghost use Rattle.group_log.specs.Journal.{IsAtRest, IsInProgress, Rests, Grows};
 ghost use Rattle.store_journal.specs.Filling.{first_full, group_asks, piece_asks, gate_behind, IsStopOf};
-ghost use Rattle.store_groups.specs.Stopping.{IfLog, IsNoRefusal};
+ghost use Rattle.group_replay.specs.Stopping.{IfLog, IsNoRefusal};
 ghost use Rattle.store_journal.specs.Holding.{edits_head};
 ghost use Rattle.store_journal.specs.Answers.{IfNoFault, IfShort};
-ghost use Rattle.store_groups.specs.declared.stops.StoreStop.TheVariants as stop;
+ghost use Rattle.group_replay.specs.declared.stops.StoreStop.TheVariants as stop;
 
 use group_log::{Log, LogStop};
+use group_replay::StoreStop;
 use send_commands::{Command, encode};
-use store_groups::StoreStop;
 use sx_base::{Blob, Disk};
 use uuid::Uuid;
 

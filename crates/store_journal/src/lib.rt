@@ -6,6 +6,6 @@ mod laws;
 mod reading;
 mod store;
 
+pub use group_replay::{Place, StoreStop};
 pub use laws::groups_stand_for_subvolumes;
 pub use store::Store;
-pub use store_groups::{Place, StoreStop};

@@ -9,8 +9,8 @@ ghost use Rattle.sx_base.specs.Disk.{IsAsBefore, IsImage};
 ghost use Rattle.sx_base.specs.Crash.{LeavesOnly};
 ghost use Rattle.subvol_catalog.specs.Entries.{key_of};
 ghost use Rattle.group_log.specs.Stopping.{IsFault};
-ghost use Rattle.store_groups.specs.Placing.{further};
-ghost use Rattle.store_groups.specs.Kept.{StandsBefore};
+ghost use Rattle.group_replay.specs.Placing.{further};
+ghost use Rattle.group_replay.specs.Kept.{StandsBefore};
 ghost use Rattle.store_journal.specs.Standing.{place_byte, with_bytes};
 ghost use Rattle.store_journal.specs.Reading.{file_cells, HasSize};
 
@@ -18,13 +18,13 @@ use crate::store::Store;
 use clone_resolve::EditCore;
 use extent_map::Extents;
 use group_log::{Log, LogStop};
-use store_groups::Place;
+use group_replay::Place;
 use subvol_catalog::Key;
 use sx_base::Disk;
 
 impl Store {
-    /// How many bytes a file of a complete subvolume has, by its inode number; 0 where there is no such subvolume or inode. Takes
-    /// no memory.
+    /// How many bytes a file of a complete subvolume has, by its inode number; 0 where there is no
+    /// such subvolume or inode. Takes no memory.
     pub fn file_len(&self, key: Key, ino: u64) -> u64
         ensures { result ≡ length (file_cells self.now.core (key_of key) ino) }
     {
@@ -34,8 +34,9 @@ impl Store {
         }
     }
 
-    /// Fills the buffer with the bytes of a file of a complete subvolume, by its inode number, from the place `at` of the file on,
-    /// counted in bytes. Where the file has holes they are zero. Takes no memory. `DiskFault` only.
+    /// Fills the buffer with the bytes of a file of a complete subvolume, by its inode number, from
+    /// the place `at` of the file on, counted in bytes. Where the file has holes they are zero.
+    /// Takes no memory. `DiskFault` only.
     pub fn read_range<D: Disk>(
         &self,
         disk: &mut D,

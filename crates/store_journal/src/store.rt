@@ -16,12 +16,12 @@ ghost use Rattle.store_model.specs.Image.{Header, header_of, usual_header};
 ghost use Rattle.store_model.specs.Stored.{Group, Mark, Body, Drop, IsEdit, resumed};
 ghost use Rattle.group_log.specs.Stopping.{IsFault, IsFaultOr};
 ghost use Rattle.group_log.specs.declared.stops.LogStop.TheVariants.{StoreThere};
-ghost use Rattle.store_groups.specs.declared.place.Place as here;
+ghost use Rattle.group_replay.specs.declared.place.Place as here;
 ghost use Rattle.store_journal.specs.Filling.{first_full, group_asks, head_asks, piece_asks, gate_behind, IsStopOf};
-ghost use Rattle.store_groups.specs.Stopping.{IfRefused, IfLog, IfEnded, IsNoRefusal};
-ghost use Rattle.store_groups.specs.Kept.{IsKept, AreKept};
+ghost use Rattle.group_replay.specs.Stopping.{IfRefused, IfLog, IfEnded, IsNoRefusal};
+ghost use Rattle.group_replay.specs.Kept.{IsKept, AreKept};
 ghost use Rattle.store_journal.specs.Shown.{IsIdle, IsOpen};
-ghost use Rattle.store_groups.specs.Taking.{as_runs, open_state};
+ghost use Rattle.group_replay.specs.Taking.{as_runs, open_state};
 ghost use Rattle.store_journal.specs.Holding.{new_group, HasThese, HasOneMore, Holds, Builds, in_progress};
 ghost use Rattle.store_journal.specs.Answers.{BeginsIn, EditsIn, IfNoFault, IfShort, IfHeadShort, groups_without};
 ghost use Rattle.store_journal.specs.Opening.{OpenSays, IsOpenStop, HoldsSome};
@@ -29,10 +29,10 @@ ghost use Rattle.store_journal.specs.Opening.{OpenSays, IsOpenStop, HoldsSome};
 use crate::groups::{edits_head, publish, start_group, write_drop, write_edit, write_mark};
 use clone_resolve::{EditCore, Part};
 use group_log::{Log, LogStop};
+use group_replay::{Place, StoreStop, Window, take_group};
 use send_commands::{Command, data_place};
 use std::alloc::Global;
 use std::marker::Model;
-use store_groups::{Place, StoreStop, Window, take_group};
 use subvol_catalog::Key;
 use sx_base::{Blob, Disk, Stop};
 use uuid::Uuid;
@@ -60,8 +60,9 @@ impl Model for Store {
 }
 
 impl Store {
-    /// Makes a new store on an empty disk: a header of format 2 with the usual limit, and no groups. `StoreThere` exactly where the
-    /// size is not 0, and then the disk stays as it was at every moment; `DiskFault`. Takes no memory.
+    /// Makes a new store on an empty disk: a header of format 2 with the usual limit, and no
+    /// groups. `StoreThere` exactly where the size is not 0, and then the disk stays as it was at
+    /// every moment; `DiskFault`. Takes no memory.
     pub fn create<D: Disk>(disk: &mut D) -> Result<(), LogStop>
         ensures made { D.tells → OnOk result (D.seen disk.new ≡ header_of usual_header ++ 0 ∷ []) }
         ensures durable { D.tells →
@@ -84,12 +85,13 @@ impl Store {
         Log::create(disk)
     }
 
-    /// Opens the store that stands on a disk: a sync, so that a crash leaves what is read from here on, and then group after group.
-    /// The store is live, and no part is open.
+    /// Opens the store that stands on a disk: a sync, so that a crash leaves what is read from here
+    /// on, and then group after group. The store is live, and no part is open.
     ///
     /// # Errors
-    /// `NotStore` exactly where the bytes stand for no store: of group 0 where there is no whole and right header, else of the first
-    /// group that is cut short or makes nothing of the subvolumes before it. `DiskFault`. It refuses nothing.
+    /// `NotStore` exactly where the bytes stand for no store: of group 0 where there is no whole
+    /// and right header, else of the first group that is cut short or makes nothing of the
+    /// subvolumes before it. `DiskFault`. It refuses nothing.
     pub fn open<D: Disk>(disk: &mut D, alloc: Global) -> Result<Store, StoreStop>
         ensures idle { IfOk result (IsIdle (D.len disk.new)) }
         ensures says { D.tells → OpenSays (D.seen disk.old) result }
@@ -126,8 +128,8 @@ impl Store {
         }
     }
 
-    /// Whether the store may be written to: until a call that takes `&mut self` answers a stop of the journal or that there is no
-    /// memory.
+    /// Whether the store may be written to: until a call that takes `&mut self` answers a stop of
+    /// the journal or that there is no memory.
     pub fn live(&self) -> bool
         ensures { result ≡ self.now.is_live }
     {
@@ -157,12 +159,13 @@ impl Store {
         &self.log
     }
 
-    /// Begins the entry of a head, and publishes a group of the head. The part is no open part: `reopen` starts the group of its
-    /// edits.
+    /// Begins the entry of a head, and publishes a group of the head. The part is no open part:
+    /// `reopen` starts the group of its edits.
     ///
     /// # Errors
-    /// `BadName`, `NameThere`, `UuidThere` and `NoParent`: the first of these that holds, and then nothing is written and nothing is
-    /// changed. `LogFull`, where the group does not fit; `DiskFault`.
+    /// `BadName`, `NameThere`, `UuidThere` and `NoParent`: the first of these that holds, and then
+    /// nothing is written and nothing is changed. `LogFull`, where the group does not fit;
+    /// `DiskFault`.
     pub fn mark<D: Disk>(
         &mut self,
         disk: &mut D,
@@ -186,8 +189,8 @@ impl Store {
         // Where the disk tells, it has the group of the head then.
         ensures holds { D.tells → (header : Header) (groups : List Group) →
             Holds header groups self.old (D.seen disk.old) (D.pending disk.old) →
-            OnOk result (Holds header (groups ++ new_group (Mark (meaning_of head.now)) ∷ []) self.new
-            (D.seen disk.new) (D.pending disk.new)) }
+            OnOk result (Holds header (groups ++ new_group (Mark (meaning_of head.now)) ∷ [])
+            self.new (D.seen disk.new) (D.pending disk.new)) }
 
         // What was written is stable then.
         ensures durable { D.tells →
@@ -224,7 +227,8 @@ impl Store {
             self.old.log.limit (first_full self.old.log.limit
             (group_asks self.old.log.gate (1 + length (canonical 1 (meaning_of head.now)))))) }
         ensures fits { OnOk result (first_full self.old.log.limit
-            (group_asks self.old.log.gate (1 + length (canonical 1 (meaning_of head.now)))) ≡ None) }
+            (group_asks self.old.log.gate (1 + length (canonical 1 (meaning_of head.now))))
+            ≡ None) }
         ensures later { D.faults disk.old ≤ D.faults disk.new }
         ensures steady { Steady (D.faults disk.old) (D.faults disk.new) result }
     {
@@ -291,12 +295,13 @@ impl Store {
         }
     }
 
-    /// Begins the entry of a head and its part: publishes a group of the head, and starts the group of the part's edits, whose frames
-    /// are of this version.
+    /// Begins the entry of a head and its part: publishes a group of the head, and starts the group
+    /// of the part's edits, whose frames are of this version.
     ///
     /// # Errors
-    /// `BadName`, `NameThere`, `UuidThere` and `NoParent`: the first of these that holds, and then nothing is written and nothing is
-    /// changed. `LogFull`, where the groups do not fit; `DiskFault`.
+    /// `BadName`, `NameThere`, `UuidThere` and `NoParent`: the first of these that holds, and then
+    /// nothing is written and nothing is changed. `LogFull`, where the groups do not fit;
+    /// `DiskFault`.
     pub fn begin<D: Disk>(
         &mut self,
         disk: &mut D,
@@ -315,7 +320,8 @@ impl Store {
         ensures size { OnOk result (self.new.log.size ≡ self.new.log.gate + 27) }
         ensures limit { self.new.log.limit ≡ self.old.log.limit }
 
-        // Where the disk tells, it has the group of the head then, and the part is the one that the group of its edits makes.
+        // Where the disk tells, it has the group of the head then, and the part is the one that the
+        // group of its edits makes.
         ensures builds { D.tells → (header : Header) (groups : List Group) →
             Holds header groups self.old (D.seen disk.old) (D.pending disk.old) →
             IfOk result (λ part. Builds header
@@ -323,8 +329,8 @@ impl Store {
             (in_progress version [] part) self.new
             (D.seen disk.new) (D.pending disk.new)) }
 
-        // Where it stops though the disk did not fail, that has the groups that there were; and that of the head too where this one
-        // has room, and only the group of the edits has none.
+        // Where it stops though the disk did not fail, that has the groups that there were; and
+        // that of the head too where this one has room, and only the group of the edits has none.
         ensures held { D.tells → (header : Header) (groups : List Group) →
             Holds header groups self.old (D.seen disk.old) (D.pending disk.old) →
             IfHeadShort result (first_full self.old.log.limit
@@ -368,7 +374,8 @@ impl Store {
         Ok(part)
     }
 
-    /// The part of the unfinished entry of a UUID as it began, and starts the group of its edits, whose frames are of this version.
+    /// The part of the unfinished entry of a UUID as it began, and starts the group of its edits,
+    /// whose frames are of this version.
     ///
     /// # Errors
     /// `LogFull`, where the group does not fit; `DiskFault`. It refuses nothing.
@@ -425,11 +432,12 @@ impl Store {
         Ok(part)
     }
 
-    /// One command on the open part, whose frame is put into the group of the edits; it is neither a head nor END.
+    /// One command on the open part, whose frame is put into the group of the edits; it is neither
+    /// a head nor END.
     ///
     /// # Errors
-    /// The refusals of the command, after which nothing is written and nothing is changed. `LogFull`, where the frame does not fit;
-    /// `DiskFault`.
+    /// The refusals of the command, after which nothing is written and nothing is changed.
+    /// `LogFull`, where the frame does not fit; `DiskFault`.
     pub fn edit<D: Disk>(
         &mut self,
         disk: &mut D,
@@ -499,8 +507,8 @@ impl Store {
         }
     }
 
-    /// Completes the open part: its entry takes its subvolume, and the group of its edits is published. Takes no memory.
-    /// `DiskFault` only.
+    /// Completes the open part: its entry takes its subvolume, and the group of its edits is
+    /// published. Takes no memory. `DiskFault` only.
     pub fn complete<D: Disk>(&mut self, disk: &mut D, part: Part<Place>) -> Result<(), LogStop>
         requires { IsOpen (D.len disk.old) part self.old }
         ensures core { OnOk result
@@ -520,7 +528,8 @@ impl Store {
         ensures durable { D.tells →
             OnOk result (D.pending disk.new ≡ settled (D.seen disk.new)) }
 
-        // At every moment a crash leaves the groups that there were, or these and that of the edits.
+        // At every moment a crash leaves the groups that there were, or these and that of the
+        // edits.
         ensures any_moment { D.tells → (header : Header) (groups : List Group) (version : ℕ)
             (commands : List model_command.Command) →
             Builds header groups (in_progress version commands part) self.old
@@ -546,7 +555,8 @@ impl Store {
         }
     }
 
-    /// Leaves the entry of the open part unfinished, and forgets the group of its edits. Calls no disk, and takes no memory.
+    /// Leaves the entry of the open part unfinished, and forgets the group of its edits. Calls no
+    /// disk, and takes no memory.
     pub fn abandon(&mut self, part: Part<Place>)
         ensures core { self.new.core ≡ self.old.core }
         ensures gate { self.new.log.gate ≡ self.old.log.gate }
@@ -563,8 +573,8 @@ impl Store {
         self.open_part = None;
     }
 
-    /// Drops the entry of a name, finished or not, and publishes a group of the name; answers whether there was one. Where there is
-    /// none, nothing is written.
+    /// Drops the entry of a name, finished or not, and publishes a group of the name; answers
+    /// whether there was one. Where there is none, nothing is written.
     ///
     /// # Errors
     /// `LogFull`, where the group does not fit; `DiskFault`. It refuses nothing.
@@ -587,7 +597,8 @@ impl Store {
         ensures durable { D.tells → result ≡ Ok true →
             D.pending disk.new ≡ settled (D.seen disk.new) }
 
-        // It stops only where there is such an entry; where the disk did not fail, that has the groups that there were.
+        // It stops only where there is such an entry; where the disk did not fail, that has the
+        // groups that there were.
         ensures found { OnErr result (has_name name.now self.old.core ≡ true) }
         ensures held { D.tells → (header : Header) (groups : List Group) →
             Holds header groups self.old (D.seen disk.old) (D.pending disk.old) →

@@ -1,4 +1,5 @@
--- Worked examples of every status and every note, and of what answers say. The lines are those of another program.
+-- Worked examples of every status and every note, and of what answers say. The lines are those of
+-- another program.
 use Rattle.std.specs.Prelude.{◌≡◌, ℕ, List, [], ◌∷◌, ◌++◌, map, codes, refl}
 use Rattle.std.specs.Fmt.{digits}
 use Rattle.send_model.specs.Printed.{is_plain, hex_digit, escaped_byte, escaped}

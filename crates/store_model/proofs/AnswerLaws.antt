@@ -1,4 +1,5 @@
--- What is due is answered as it says, and one such answer is given; and where nothing was done, nothing stands.
+-- What is due is answered as it says, and one such answer is given; and where nothing was done,
+-- nothing stands.
 use Rattle.std.specs.Prelude.{◌≡◌, ℕ, Bool, true, false, List, [], ◌∷◌}
 use Rattle.std.proofs.Common.{inl, inr, refl, sym, subst}
 use Rattle.send_model.specs.Store.{Store}
@@ -14,7 +15,7 @@ use Rattle.store_model.specs.NamedFiles.{NamedFiles, read_of}
 use Rattle.store_model.specs.Dues as dues
 use Rattle.store_model.specs.Dues.{Due, Ends}
 use Rattle.store_model.specs.Requests.{Request, OfStreams, InitStore, DropEntry, ReceiveFiles, ListStore, ShowEntry, CatFile, ScrubStore, store_of, reads_store, base_over, Says, at_entry}
-use Rattle.store_model.specs.Answers.{status_of, OfAnyWord, StoreFault, NotStore, Missing, LogFull, StoreThere, Damaged, answer_of, DueSays, Answers, DueIsAnswered, OneIsAnswered, DoneAlone, InitFault, StreamsBefore, PrintsBefore, NothingStandsBefore, NothingStandsAtFault, StandsBefore, StandsCut, StandsFault, ReadsOnly, ReadersKeepTheImage, ReceiveIsOnTheWay, ReceiveIsCut, DropKeeps, PrintsInFront}
+use Rattle.store_model.specs.Answers.{status_of, OfAnyWord, StoreFault, NotStore, Missing, LogFull, StoreThere, Damaged, answer_of, DueSays, Answers, DueIsAnswered, OneIsAnswered, DoneAlone, InitFault, StreamsBefore, PrintsBefore, NothingStandsBefore, NothingStandsAtFault, StandsBefore, StandsInput, StandsCut, StandsFault, ReadsOnly, ReadersKeepTheImage, ReceiveIsOnTheWay, ReceiveIsCut, DropKeeps, PrintsInFront}
 use Rattle.send_model.proofs.Fronts.{nothing_front}
 use Rattle.send_model.proofs.Writing.{nothing_unfinished}
 use Rattle.store_model.proofs.StoreAnswers.{one_due}
@@ -134,6 +135,17 @@ before_keeps (InitStore store) words image files written left reads h = absurd r
 before_keeps (DropEntry store name) words image files written left reads h = absurd reads
 before_keeps (ReceiveFiles guards store at) words image files written left reads h = absurd reads
 
+input_keeps : (request : Request) (words : List (List ℕ)) (image : List ℕ) (files : NamedFiles) (written left : List ℕ)
+    → ReadsOnly request → StandsInput request words image files written left → left ≡ image
+input_keeps (OfStreams request) words image files written left reads h = h.0
+input_keeps (ListStore store) words image files written left reads h = absurd h
+input_keeps (ShowEntry store name) words image files written left reads h = absurd h
+input_keeps (CatFile store name path) words image files written left reads h = absurd h
+input_keeps (ScrubStore store) words image files written left reads h = absurd h
+input_keeps (InitStore store) words image files written left reads h = absurd reads
+input_keeps (DropEntry store name) words image files written left reads h = absurd reads
+input_keeps (ReceiveFiles guards store at) words image files written left reads h = absurd reads
+
 cut_keeps : (request : Request) (words : List (List ℕ)) (image : List ℕ) (files : NamedFiles) (written left : List ℕ)
     → ReadsOnly request → StandsCut request words image files written left → left ≡ image
 cut_keeps (OfStreams request) words image files written left reads h = h.0
@@ -166,8 +178,8 @@ readers_keep_the_image request words image files (Missing what) written left rea
 readers_keep_the_image request words image files (LogFull end wanted limit) written left reads h = said_keeps request words image files (dues.LogFull end wanted limit) written left reads h.1
 readers_keep_the_image request words image files (StoreThere size) written left reads h = said_keeps request words image files (dues.StoreThere size) written left reads h.1
 readers_keep_the_image request words image files (Damaged group stored computed) written left reads h = said_keeps request words image files (dues.Damaged group stored computed) written left reads h.1
-readers_keep_the_image request words image files (OfAnyWord InputFault) written left reads h = before_keeps request words image files written left reads h.1
-readers_keep_the_image request words image files (OfAnyWord (InputChanged file place)) written left reads h = before_keeps request words image files written left reads h.1
+readers_keep_the_image request words image files (OfAnyWord InputFault) written left reads h = input_keeps request words image files written left reads h.1
+readers_keep_the_image request words image files (OfAnyWord (InputChanged file place)) written left reads h = input_keeps request words image files written left reads h.1
 readers_keep_the_image request words image files (OfAnyWord OutputFault) written left reads h = cut_keeps request words image files written left reads h
 readers_keep_the_image request words image files (OfAnyWord NoMemory) written left reads h = before_keeps request words image files written left reads h
 readers_keep_the_image request words image files StoreFault written left reads h = fault_keeps request words image files written left reads h

@@ -1,4 +1,5 @@
--- Groups make the same store over other cells: each cell is replaced by what a function makes of it.
+-- Groups make the same store over other cells: each cell is replaced by what a function makes of
+-- it.
 use Rattle.std.specs.Prelude.{◌≡◌, ℕ, ◌+◌, Bool, true, false, cond, ◌&&◌, not, List, [], ◌∷◌, length, map, Option, None, Some, Result, Ok, Err, is_none, if◌then◌else◌}
 use Rattle.std.specs.List.{filter}
 use Rattle.std.specs.Option.{option_map}

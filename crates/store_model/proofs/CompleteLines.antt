@@ -1,4 +1,5 @@
--- The line of a complete part has one line end, its last byte: so as many lines stand whole as line ends.
+-- The line of a complete part has one line end, its last byte: so as many lines stand whole as line
+-- ends.
 use Rattle.std.specs.Prelude.{◌≡◌, ◌⊎◌, ℕ, zero, suc, ◌+◌, ◌/◌, ◌%◌, ◌<◌, ◌≤◌, ◌^◌, ◌==◌, Bool, true, false, cond, List, [], ◌∷◌, ◌++◌, length, take, drop, codes, nat_lt, if◌then◌else◌}
 use Rattle.std.specs.List.{AllByRecursion, filter, flat_map}
 use Rattle.std.specs.Fmt.{decimal}
@@ -18,7 +19,7 @@ use Rattle.send_model.proofs.ElementLaws.{all_both}
 abbrev EndsNone : List ℕ → Type 0
 EndsNone bytes = AllByRecursion (λ b. (b == 10) ≡ false) bytes
 
-lines_both : (xs ys : List ℕ) → lines_in (xs ++ ys) ≡ lines_in xs + lines_in ys
+pub lines_both : (xs ys : List ℕ) → lines_in (xs ++ ys) ≡ lines_in xs + lines_in ys
 lines_both xs ys = sum_by-append (λ b. cond (b == 10) 1 0) xs ys
 
 none_left : (xs : List ℕ) → EndsNone xs → filter (λ b. b == 10) xs ≡ []
@@ -122,7 +123,8 @@ front_none zero bytes h = tt
 front_none (suc n) [] h = tt
 front_none (suc n) (b ∷ bytes) h = (h.0, front_none n bytes h.1)
 
--- The first lines stand whole, as many as there are line ends, and what follows them has no line end.
+-- The first lines stand whole, as many as there are line ends, and what follows them has no line
+-- end.
 pub first_lines : {S : Type 0} (es : List (Entry S)) (written rest : List ℕ) → HasNumbers es → flat_map complete_line es ≡ written ++ rest
     → (part : List ℕ) × (written ≡ flat_map complete_line (take (lines_in written) es) ++ part) × (lines_in part ≡ 0)
 first_lines [] [] rest small is = ([], refl, refl)

@@ -1,5 +1,5 @@
--- Worked examples of answers over a store, of what `list` and `show` print, and of what `scrub` finds. The lines and the images are
--- those of another program.
+-- Worked examples of answers over a store, of what `list` and `show` print, and of what `scrub`
+-- finds. The lines and the images are those of another program.
 use Rattle.std.specs.Prelude.{replicate, Option, ◌≡◌, ℕ, ◌^◌, List, [], ◌∷◌, ◌++◌, take, drop, None, Some, codes, refl}
 use Rattle.std.specs.Fmt.{digits}
 use Rattle.std.proofs.Common.{inl, inr, arith, lit<}
@@ -12,6 +12,7 @@ use Rattle.send_model.specs.Receive.{byte_cells, run_by, run_items, start_of}
 use Rattle.send_model.specs.Guards.{guard_refuses, guard_after, refused_from, looked, receive_watched}
 use Rattle.send_model.specs.Lengths.{is_too_long, too_long, too_long_from}
 use Rattle.send_model.specs.Due.{DoneWhole, RefusedAt, due_from, limited_from, audit_due, file_due}
+use Rattle.send_model.specs.Overridden.{Override, no_override}
 use Rattle.store_model.specs.NamedFiles.{unnamed}
 use Rattle.store_model.specs.Image.{usual_header}
 use Rattle.store_model.specs.States.{complete_line, lines_behind, received_lines, left_by}
@@ -55,16 +56,20 @@ first_left : left_by [] [] (unnamed (first_stream ∷ [])) ≡ a_complete ∷ []
 unfolding due_words first_stream a_with
 first_left = refl
 
+-- A name alone in front of a file.
+abbrev called : List ℕ → Override
+called name = record { name = Some name; parents = [] }
+
 first_lines : received_lines [] [] (unnamed (first_stream ∷ [])) ≡ codes "complete a 11111111-1111-1111-1111-111111111111 1" ++ 10 ∷ []
 unfolding due_words first_stream
 first_lines = refl
 
 -- and the same under another name
-first_renamed : left_by [] [] (record { bytes = first_stream ∷ []; names = Some (codes "copy") ∷ [] }) ≡ record a_complete { name = codes "copy" } ∷ []
+first_renamed : left_by [] [] (record { bytes = first_stream ∷ []; overrides = called (codes "copy") ∷ [] }) ≡ record a_complete { name = codes "copy" } ∷ []
 unfolding due_words first_stream a_with
 first_renamed = refl
 
-renamed_lines : received_lines [] [] (record { bytes = first_stream ∷ []; names = Some (codes "copy") ∷ [] }) ≡ codes "complete copy 11111111-1111-1111-1111-111111111111 1" ++ 10 ∷ []
+renamed_lines : received_lines [] [] (record { bytes = first_stream ∷ []; overrides = called (codes "copy") ∷ [] }) ≡ codes "complete copy 11111111-1111-1111-1111-111111111111 1" ++ 10 ∷ []
 unfolding due_words first_stream
 renamed_lines = refl
 
@@ -82,8 +87,8 @@ one_byte_less : receive_due 160 20 [] [] (unnamed (first_stream ∷ [])) ≡ Log
 unfolding due_words first_stream
 one_byte_less = refl
 
--- a header with the limit 4096 leaves room for a WRITE of 3937 bytes, and for none of 3938; what stands in a frame as its checksum does
--- not matter
+-- a header with the limit 4096 leaves room for a WRITE of 3937 bytes, and for none of 3938; what
+-- stands in a frame as its checksum does not matter
 long_write : ℕ → List Command
 long_write n = Subvol (uuid 0x11) 1 (codes "a") ∷ MkFile (codes "x") ∷ Write (codes "x") 0 (replicate n 97) ∷ End ∷ []
 
@@ -113,8 +118,8 @@ second_lines : received_lines [] [] (unnamed (first_stream ∷ second_stream ∷
 unfolding due_words first_stream second_stream
 second_lines = refl
 
--- where there is no room for the second Mark, the first part is complete; where there is none for the start of its Body, the second one has
--- begun
+-- where there is no room for the second Mark, the first part is complete; where there is none for
+-- the start of its Body, the second one has begun
 no_second_mark : (receive_due 173 20 [] [] (unnamed (first_stream ∷ second_stream ∷ [])) ≡ LogFull 160 9 173) × (receive_left 173 20 [] [] (unnamed (first_stream ∷ second_stream ∷ [])) ≡ a_complete ∷ [])
 unfolding due_words first_stream second_stream a_with
 no_second_mark = (refl, refl)
@@ -135,7 +140,7 @@ unfolding due_words first_stream a_with
 there = refl
 
 -- under another name it is refused for its uuid
-there_renamed : (receive_due (2 ^ 40) 160 (a_complete ∷ []) [] (record { bytes = first_stream ∷ []; names = Some (codes "copy") ∷ [] }) ≡ Ends (RefusedAt (record { file = 1; command = 1; offset = 17; refusal = UuidThere })))
+there_renamed : (receive_due (2 ^ 40) 160 (a_complete ∷ []) [] (record { bytes = first_stream ∷ []; overrides = called (codes "copy") ∷ [] }) ≡ Ends (RefusedAt (record { file = 1; command = 1; offset = 17; refusal = UuidThere })))
 unfolding due_words first_stream a_with
 there_renamed = refl
 
@@ -204,7 +209,8 @@ on_streams : (words (codes "compose" ∷ codes "st" ∷ codes "f" ∷ codes "g" 
 unfolding word_words
 on_streams = (refl, refl, refl, refl)
 
--- over no store, whatever the image is; over the one that has the part, which is there already; to compose without it; and over none
+-- over no store, whatever the image is; over the one that has the part, which is there already; to
+-- compose without it; and over none
 unfoldable stream_words : Unit {0}
 unfolding due_words first_stream a_with streams.due audit_due too_long too_long_from due_from
 stream_words = tt
@@ -223,7 +229,7 @@ twice_over_none image = refl
 
 -- under another name the second file begins anew, and its uuid is there already
 twice_with_a_name : (image : List ℕ) → IsDue (OfStreams (Audit [] 1 2)) (codes "audit" ∷ codes "none" ∷ codes "f" ∷ codes "f" ∷ []) image
-    (record { bytes = first_stream ∷ first_stream ∷ []; names = None ∷ Some (codes "b") ∷ [] })
+    (record { bytes = first_stream ∷ first_stream ∷ []; overrides = no_override ∷ called (codes "b") ∷ [] })
     (Ends (RefusedAt (record { file = 2; command = 1; offset = 17; refusal = UuidThere })))
 unfolding stream_words
 twice_with_a_name image = refl

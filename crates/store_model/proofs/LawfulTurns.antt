@@ -1,5 +1,5 @@
--- What turns write are lawful groups: both versions can say the same heads, and a part stands in one stream, so that its edits can be said
--- in the version of its head.
+-- What turns write are lawful groups: both versions can say the same heads, and a part stands in
+-- one stream, so that its edits can be said in the version of its head.
 use Rattle.std.specs.Prelude.{◌≡◌, ◌<◌, ℕ, zero, suc, ◌+◌, ◌-◌, Bool, true, false, not, ◌&&◌, List, [], ◌∷◌, ◌++◌, length, map, drop, Option, None, Some, Result, Ok, Err, is_some, is_none, if◌then◌else◌}
 use Rattle.std.specs.List.{AllByRecursion, slice_get}
 use Rattle.std.proofs.Common.{refl, sym, ap, subst, ◌∙◌, inl, inr}

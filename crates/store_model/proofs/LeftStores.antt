@@ -1,4 +1,5 @@
--- The store that is left where receiving ends is one that it passes through; where there was room, it is what receiving leaves.
+-- The store that is left where receiving ends is one that it passes through; where there was room,
+-- it is what receiving leaves.
 use Rattle.std.specs.Prelude.{◌≡◌, ℕ, ◌+◌, List, [], ◌∷◌, length, Option, None, Some, is_some, if◌then◌else◌}
 use Rattle.std.proofs.Common.{refl, sym, ap, subst, ◌∙◌}
 use Rattle.send_model.specs.Refusal.{Refusal}
@@ -143,7 +144,8 @@ left_is_received limit gate store guards files due is =
         not_both : LogFull end wanted limit ≡ Ends due → ⊥
         not_both p = cc
 
--- What is read up to the limit of lengths stands in front of all, so receiving all passes through what it leaves.
+-- What is read up to the limit of lengths stands in front of all, so receiving all passes through
+-- what it leaves.
 pub left_is_state : LeftIsState
 unfolding receive_watched received
 left_is_state limit gate store guards files are =

@@ -7,9 +7,19 @@ pub mod OneStore
 pub mod LawfulGroups
 mod StoredExamples
 pub mod PassedStates
-mod CompleteLines
+pub mod CompleteLines
 mod DueExamples
 mod AnswerExamples
+mod NameExamples
+mod RoomExamples
+mod GroupExamples
+mod SessionExamples
+pub mod WordMeanings
+pub mod NoStoreMeanings
+pub mod StreamMeanings
+pub mod ReceiveMeanings
+pub mod TurnMeanings
+mod MeaningExamples
 pub mod SaidBodies
 pub mod Decided
 pub mod ScrubLaws
@@ -37,3 +47,13 @@ pub mod TurnStates
 pub mod LawfulTurns
 pub mod NoneOpen
 mod TurnExamples
+pub mod TurnEnds
+pub mod TurnStanding
+pub mod TurnCells
+pub mod TurnOvers
+pub mod TurnHelds
+pub mod TurnJoining
+pub mod TurnMaking
+pub mod TurnTaken
+pub mod MeantByTurns
+mod TurnEndExamples

@@ -1,5 +1,5 @@
--- What turns keep: the store beside the one that receiving the completed parts alone leaves, and the parts that sessions receive. Three
--- moves keep it: an edit, a completion and a beginning.
+-- What turns keep: the store beside the one that receiving the completed parts alone leaves, and
+-- the parts that sessions receive. Three moves keep it: an edit, a completion and a beginning.
 use Rattle.std.specs.Prelude.{◌≡◌, ◌⊎◌, ℕ, Bool, true, false, not, List, [], ◌∷◌, ◌++◌, Option, None, Some, Ok, is_some}
 use Rattle.std.specs.List.{AllByRecursion, list_any, flat_map}
 use Rattle.std.specs.Str.{bytes_eq}
@@ -117,15 +117,16 @@ one_entry_more (p ∷ parts) part [] e a h c = absurd a
 one_entry_more (p ∷ parts) part (x ∷ entries) e a h c = (a.0, a.1, one_entry_more parts part entries e a.2 h c)
 
 module _ {C : Type 0} (zero_cell : C) (cells : Item → List C) where
-  -- A part that a session receives: its items make it over what the completed parts leave, where its name and uuid are new; in the
-  -- store its entry stands unfinished.
+  -- A part that a session receives: its items make it over what the completed parts leave, where
+  -- its name and uuid are new; in the store its entry stands unfinished.
   pub record Open (store alone : Store C) (r : Receiving C) : Type 0 where
     pub built : Built zero_cell cells alone r.taken r.part
     pub stands : IsIn (unfinished built.head) store
     pub new_name : has_name built.head.name alone ≡ false
     pub new_uuid : has_uuid built.head.key.uuid alone ≡ false
 
-  -- After some turns: `alone` is what receiving the completed parts one after the other leaves, `held` the current part of each session.
+  -- After some turns: `alone` is what receiving the completed parts one after the other leaves,
+  -- `held` the current part of each session.
   pub record Stands (base store alone : Store C) (events : List Event) (held : ℕ → Option (Receiving C)) : Type 0 where
     pub distinct : IsStore store
     pub alone_distinct : IsStore alone

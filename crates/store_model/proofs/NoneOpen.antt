@@ -1,4 +1,5 @@
--- Where no session is refused each part that began is complete: what is not complete is the current part of a session.
+-- Where no session is refused each part that began is complete: what is not complete is the current
+-- part of a session.
 use Rattle.std.specs.Prelude.{◌≡◌, ◌⊎◌, ℕ, zero, suc, ◌+◌, Bool, true, false, ◌||◌, List, [], ◌∷◌, ◌++◌, length, drop, Option, None, Some, Result, Ok, Err, is_some, if◌then◌else◌}
 use Rattle.std.specs.List.{AllByRecursion, slice_get}
 use Rattle.std.specs.Option.{option_map}
@@ -81,8 +82,8 @@ none_some : {A : Type 0} {x : A} → ◌≡◌ {A = Option A} None (Some x) → 
 none_some e = cc
 
 module _ {C : Type 0} where
-  -- What a turn that is not refused does of parts: each that it began is the session's, and the session's part before it is complete,
-  -- or still the session's.
+  -- What a turn that is not refused does of parts: each that it began is the session's, and the
+  -- session's part before it is complete, or still the session's.
   record Handles (s : Session C) (t : Turn C) : Type 0 where
     mine : (e : Entry (Subvolume C)) → IsIn e (begun_entries t.events) → (r : Receiving C) × (held_of t.session ≡ Some r) × (r.part.key.uuid ≡ e.key.uuid)
     before : (r : Receiving C) → held_of s ≡ Some r → (is_among (done t.events) r.part.key.uuid ≡ true) ⊎ ((q : Receiving C) × (held_of t.session ≡ Some q) × (q.part.key.uuid ≡ r.part.key.uuid))

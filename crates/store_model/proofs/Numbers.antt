@@ -1,5 +1,5 @@
--- Each ctransid of a store is a number of eight bytes: a head says it in as many, and all other groups keep it. So what is received has one
--- line for each part that is complete.
+-- Each ctransid of a store is a number of eight bytes: a head says it in as many, and all other
+-- groups keep it. So what is received has one line for each part that is complete.
 use Rattle.std.specs.Prelude.{◌≡◌, ℕ, ◌+◌, ◌<◌, ◌^◌, Bool, true, false, not, List, [], ◌∷◌, length, drop, Option, None, Some, Result, Ok, Err, if◌then◌else◌}
 use Rattle.std.specs.List.{AllByRecursion, filter}
 use Rattle.std.specs.Option.{option_map}

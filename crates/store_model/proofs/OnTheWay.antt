@@ -1,4 +1,5 @@
--- The image before receiving, the one behind all that it writes, and each behind the first groups of that are on the way.
+-- The image before receiving, the one behind all that it writes, and each behind the first groups
+-- of that are on the way.
 use Rattle.std.specs.Prelude.{◌≡◌, ℕ, List, [], ◌++◌, map, Some}
 use Rattle.std.specs.List.{AllByRecursion}
 use Rattle.std.proofs.Common.{refl, sym, subst, ◌∙◌, arith, append-nil}

@@ -174,7 +174,8 @@ plain_by g below = one g.is_sealed g.content below
     one true (Body uuid version commands) h = absurd (omega (arith, h))
     one true (Drop name) h = absurd (omega (arith, h))
 
--- where a checksum is there, the last four bytes are that of those before them, and these are the rest of what it says
+-- where a checksum is there, the last four bytes are that of those before them, and these are the
+-- rest of what it says
 pub seal_is : (g : Group) (bytes sum : List ℕ) → length sum ≡ 4 → g.is_sealed ≡ true → body_bytes g ≡ bytes ++ sum → (number_of true g.content ∷ content_bytes g.content ≡ bytes) × (sum ≡ to_le_bytes w32 (crc_of 0 bytes))
 seal_is g bytes sum four own is =
     let said : List ℕ = number_of true g.content ∷ content_bytes g.content in

@@ -1,5 +1,6 @@
--- An image stands for one store at most, and where it stands for one it stands not for none; where it stands for none, it does so by one
--- group. All of it by what stands behind the last of the groups that make a store: nothing that goes on.
+-- An image stands for one store at most, and where it stands for one it stands not for none; where
+-- it stands for none, it does so by one group. All of it by what stands behind the last of the
+-- groups that make a store: nothing that goes on.
 use Rattle.std.specs.Prelude.{◌≡◌, ◌≢◌, ◌⊎◌, ℕ, zero, suc, List, [], ◌∷◌, ◌++◌, length, map, get_or, drop, Option, None, Some}
 use Rattle.std.specs.List.{AllByRecursion}
 use Rattle.std.proofs.Common.{inl, inr, refl, sym, ap, subst, ◌∙◌, arith, append_assoc, flat_map}

@@ -1,4 +1,5 @@
--- The completed parts as files of their own: each is read as its part's commands, and so they are received one after the other.
+-- The completed parts as files of their own: each is read as its part's commands, and so they are
+-- received one after the other.
 use Rattle.std.specs.Prelude.{◌≡◌, ℕ, zero, suc, ◌+◌, false, List, [], ◌∷◌, ◌++◌, map, None, Some}
 use Rattle.std.specs.List.{AllByRecursion, flat_map, slice_get}
 use Rattle.std.proofs.Common.{refl, sym, ap, subst, ◌∙◌, inl, inr}

@@ -1,5 +1,5 @@
--- The stores that receiving passes through: entries come behind those that were there, the last of them unfinished at the most; what
--- items leave is on the way to what more items leave.
+-- The stores that receiving passes through: entries come behind those that were there, the last of
+-- them unfinished at the most; what items leave is on the way to what more items leave.
 use Rattle.std.specs.Prelude.{◌≡◌, ◌⊎◌, ℕ, true, false, List, [], ◌∷◌, ◌++◌, length, drop, Option, None, Some, Result, Ok, Err, is_some}
 use Rattle.std.specs.List.{AllByRecursion, filter}
 use Rattle.std.specs.Str.{bytes_eq}
@@ -108,7 +108,8 @@ sort_of End = inr (inl refl)
 sort_of c = inr (inr refl)
 
 module _ {C : Type 0} where
-  -- Behind the entries of the start all are complete but for the last one, which is that of the part, if there is one.
+  -- Behind the entries of the start all are complete but for the last one, which is that of the
+  -- part, if there is one.
   pub record IsClosed (start store : Store C) : Type 0 where
     pub complete : Store C
     pub is : store ≡ start ++ complete

@@ -1,5 +1,5 @@
--- The data of the WRITE commands of groups stand in the image at the places that are put for them. So groups make of places what they
--- make of bytes.
+-- The data of the WRITE commands of groups stand in the image at the places that are put for them.
+-- So groups make of places what they make of bytes.
 use Rattle.std.specs.Prelude.{◌≡◌, ℕ, ◌+◌, ◌-◌, ◌<◌, ◌≤◌, Bool, true, false, List, [], ◌∷◌, ◌++◌, length, map, take, drop, get_or, Option, None, Some, Ok}
 use Rattle.std.specs.List.{AllByRecursion, range_with_len}
 use Rattle.std.specs.Int.{w16, w32, w64, to_le_bytes}

@@ -1,4 +1,5 @@
--- What is read of the first bytes of a file is what is read first of the whole file: so it is of files that are read up to the limit.
+-- What is read of the first bytes of a file is what is read first of the whole file: so it is of
+-- files that are read up to the limit.
 use Rattle.std.specs.Prelude.{◌≡◌, ℕ, zero, suc, ◌+◌, ◌-◌, ◌<◌, Bool, true, false, List, [], ◌∷◌, ◌++◌, length, take, drop, Result, Ok, Err, nat_le, if◌then◌else◌}
 use Rattle.std.specs.List.{AllByRecursion}
 use Rattle.std.specs.Str.{bytes_eq}
@@ -13,7 +14,7 @@ use Rattle.send_model.specs.Spelling.{magic}
 use Rattle.send_model.specs.Reading.{Item, Front, Ending, Whole, Faulty, Reading, Due, HeaderDue, CommandDue, header_len, is_version, number32, stream_version, front_of, due_after, with_item, may_end, ended, faulty, go_on, reads_from, reads, joined, input_from, input}
 use Rattle.send_model.specs.Lengths.{limit, is_too_long}
 use Rattle.send_model.specs.Due.{AtLimit, then_limited, limited_from}
-use Rattle.send_model.specs.Renamed.{renamed_item, renamed_items}
+use Rattle.send_model.specs.Overridden.{overridden_item, overridden_items}
 use Rattle.send_model.proofs.Fuel.{header_there, front_shorter}
 use Rattle.send_model.proofs.Canonical.{spelled_front}
 use Rattle.send_model.proofs.ReadSpelled.{read_was_spelled}
@@ -147,5 +148,5 @@ pub limited_is_front : LimitedIsFront
 unfolding input
 limited_is_front files are =
     let front = limited_front 1 files.bytes are.bytes in
-    let named : List Item → List Item = renamed_items files.names in
-    (named front.0, ap named front.1 ∙ map-append (renamed_item files.names) (limited_from 1 files.bytes).items front.0)
+    let named : List Item → List Item = overridden_items files.overrides in
+    (named front.0, ap named front.1 ∙ map-append (overridden_item files.overrides) (limited_from 1 files.bytes).items front.0)

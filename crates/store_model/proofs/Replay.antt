@@ -1,4 +1,5 @@
--- A part that was received beside others can be received alone, over any store that finds what the one it was received into found.
+-- A part that was received beside others can be received alone, over any store that finds what the
+-- one it was received into found.
 use Rattle.std.specs.Prelude.{◌≡◌, ℕ, Bool, true, false, List, [], ◌∷◌, ◌++◌, Option, None, Some, Result, Ok, Err, is_some, if◌then◌else◌}
 use Rattle.std.specs.List.{AllByRecursion}
 use Rattle.std.specs.Str.{bytes_eq}
@@ -49,7 +50,8 @@ module _ {C : Type 0} where
       one true e = e
       one false e = f key t e
 
-  -- an edit that is taken over a store is taken over each that finds all that it finds, and makes the same
+  -- an edit that is taken over a store is taken over each that finds all that it finds, and makes
+  -- the same
   pub edit_again : (zero_cell : C) (put : List C) (old new : Store C) (part : Part C) (c : Command) (s : Subvolume C) → FindsAll old new
       → edit_part zero_cell put old part c ≡ Ok s → edit_part zero_cell put new part c ≡ Ok s
   unfolding edit_part

@@ -1,4 +1,5 @@
--- Whether a body is that of a group, and of which one: each body of bytes says something, or it says nothing.
+-- Whether a body is that of a group, and of which one: each body of bytes says something, or it
+-- says nothing.
 use Rattle.std.specs.Prelude.{◌≡◌, ◌⊎◌, ℕ, zero, suc, ◌-◌, ◌<◌, ◌≤◌, Bool, true, false, List, [], ◌∷◌, ◌++◌, length, take, drop, get_or, Result, Ok, Err}
 use Rattle.std.specs.List.{AllByRecursion}
 use Rattle.std.specs.Int.{w32, to_le_bytes}

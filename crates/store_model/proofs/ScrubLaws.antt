@@ -1,4 +1,5 @@
--- What scrub finds is one thing: all groups whole, or one fault of one group. Where an image stands for a store, all are whole.
+-- What scrub finds is one thing: all groups whole, or one fault of one group. Where an image stands
+-- for a store, all are whole.
 use Rattle.std.specs.Prelude.{◌≡◌, ◌≢◌, ◌⊎◌, ℕ, zero, suc, ◌<◌, ◌^◌, Bool, true, false, List, [], ◌∷◌, ◌++◌, length, map, get_or, nat_lt, if◌then◌else◌}
 use Rattle.std.specs.List.{AllByRecursion}
 use Rattle.std.specs.Int.{w32, w64, to_le_bytes, from_le_bytes}

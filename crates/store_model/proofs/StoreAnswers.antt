@@ -1,4 +1,5 @@
--- One answer is due to a word over a store; and what is due to receiving is what is due to an audit, unless there is no room.
+-- One answer is due to a word over a store; and what is due to receiving is what is due to an
+-- audit, unless there is no room.
 use Rattle.std.specs.Prelude.{◌≡◌, ◌⊎◌, ℕ, ◌+◌, ◌<◌, Bool, true, false, List, [], ◌∷◌, length, map, Option, None, Some, nat_lt, if◌then◌else◌}
 use Rattle.std.proofs.Common.{inl, inr, refl, sym, ap, subst, ◌∙◌}
 use Rattle.std.proofs.lemmas.Bool.{ltb-true}
@@ -47,7 +48,7 @@ over_one image over once d e x y = one (view image over d x) (view image over e 
         once other d e (subst (λ (s : Store ℕ). over s d) (one_store 0 (λ place bytes. bytes) image store other stands also) due) more
 
 -- the place of the closed gate and the limit of an image
-gate_one : (image : List ℕ) (store : Store ℕ) (a b : StandsFor image store) → (limit_of a.header ≡ limit_of b.header) × (length (front_of a.header (map body_bytes a.groups)) ≡ length (front_of b.header (map body_bytes b.groups)))
+pub gate_one : (image : List ℕ) (store : Store ℕ) (a b : StandsFor image store) → (limit_of a.header ≡ limit_of b.header) × (length (front_of a.header (map body_bytes a.groups)) ≡ length (front_of b.header (map body_bytes b.groups)))
 gate_one image store a b =
     let header : a.header ≡ b.header = one_header image a.header b.header (map body_bytes a.groups) (map body_bytes b.groups) a.has b.has in
     let bodies : map body_bytes a.groups ≡ map body_bytes b.groups = one_journal image a.header b.header (map body_bytes a.groups) (map body_bytes b.groups) a.has b.has in

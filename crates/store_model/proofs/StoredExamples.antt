@@ -1,5 +1,5 @@
--- Worked examples of images and the stores that they stand for. The bytes were made by a program that shares nothing with these
--- definitions.
+-- Worked examples of images and the stores that they stand for. The bytes were made by a program
+-- that shares nothing with these definitions.
 use Rattle.std.specs.Prelude.{◌≡◌, ℕ, ◌^◌, Bool, true, false, ◌&&◌, ◌<◌, nat_lt, List, [], ◌∷◌, ◌++◌, length, take, drop, get_or, Option, None, Some, codes}
 use Rattle.std.specs.List.{AllByRecursion, list_all}
 use Rattle.std.proofs.Common.{◌∙◌, sym, refl, ap, arith, length-append, lit<, lit≤, inl, inr}
@@ -31,7 +31,7 @@ pub usual : IsHeader usual_header
 usual = record { format = inr refl; number_fits = lit< tt }
 
 -- stands for no entries
-new_stands : StandsFor new_image []
+pub new_stands : StandsFor new_image []
 unfolding new_image stored_words
 new_stands = record {
   header = usual_header;
@@ -43,11 +43,11 @@ new_stands = record {
 -- ---- one part
 
 -- a Mark
-begin_a : Group
+unfoldable pub begin_a : Group
 begin_a = record { content = Mark (Subvol (uuid 0x11) 1 (codes "a")); is_sealed = true }
 
 -- and its Body
-edits_of_a : Group
+unfoldable pub edits_of_a : Group
 edits_of_a = record { content = Body (uuid 0x11) 1 (MkFile (codes "x") ∷ Write (codes "x") 0 (codes "hi") ∷ []); is_sealed = true }
 
 unfoldable pub mark_bytes : List ℕ
@@ -57,7 +57,7 @@ unfoldable pub body_part : List ℕ
 body_part = hexadecimal (codes "0146000000000000000511111111111111111111111111111111010500000003002f8a36730f00010078170000000f00437eee5f0f00010078120008000000000000000000130002006869a554a802")
 
 -- what can be said in a version
-small : (bytes : List ℕ) → list_all (λ b. nat_lt b 256) bytes ≡ true → IsBytes bytes
+pub small : (bytes : List ℕ) → list_all (λ b. nat_lt b 256) bytes ≡ true → IsBytes bytes
 small [] e = tt
 small (b ∷ bytes) e = one (nat_lt b 256) refl e (λ q. small bytes q)
   where
@@ -77,11 +77,11 @@ write_spellable : IsSpellable 1 (Write (codes "x") 0 (codes "hi"))
 unfolding stored_words
 write_spellable = record { known = refl; values = ((λ e. lit< tt, small (codes "x") refl), (lit< tt, ((λ e. lit< tt, small (codes "hi") refl), tt))); short = lit≤ tt }
 
-begin_is : (format : ℕ) → IsGroup format begin_a
+pub begin_is : (format : ℕ) → IsGroup format begin_a
 unfolding begin_a
 begin_is format = record { content = subvol_spellable; old = λ e. absurd (true≢false e) }
 
-edits_are : (format : ℕ) → IsGroup format edits_of_a
+pub edits_are : (format : ℕ) → IsGroup format edits_of_a
 unfolding edits_of_a
 edits_are format = record { content = (refl, refl, ((refl, mkfile_spellable), ((refl, write_spellable), tt))); old = λ e. absurd (true≢false e) }
 
@@ -108,7 +108,7 @@ mark_stands = record {
 }
 
 -- with its Body it is complete
-pub a_stands : StandsFor (mark_bytes ++ body_part ++ 0 ∷ []) (a_with (Some (one_file (codes "hi") (codes "x" ∷ []))) ∷ [])
+unfoldable pub a_stands : StandsFor (mark_bytes ++ body_part ++ 0 ∷ []) (a_with (Some (one_file (codes "hi") (codes "x" ∷ []))) ∷ [])
 unfolding begin_a edits_of_a mark_bytes body_part stored_words a_with
 a_stands = record {
   header = usual_header;

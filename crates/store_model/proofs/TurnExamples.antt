@@ -85,8 +85,9 @@ watched_lines = refl
 
 -- ---- why the order is that of completion
 
--- `p` begins, the first stream comes and its part, `a`, is complete, and then `p` clones from it. One after the other they are taken as `a`, `p`; as `p`, `a`, the
--- order in which they began and that of the words, the clone finds nothing.
+-- `p` begins, the first stream comes and its part, `a`, is complete, and then `p` clones from it.
+-- One after the other they are taken as `a`, `p`; as `p`, `a`, the order in which they began and
+-- that of the words, the clone finds nothing.
 unfoldable p : List ℕ
 p = stream_of 1 (Subvol (uuid 0x44) 4 (codes "p") ∷ MkFile (codes "z") ∷ Clone (codes "z") 0 (uuid 0x11) 1 (codes "x") 0 2 ∷ [])
 
@@ -107,8 +108,8 @@ by_beginning = refl
 
 -- ---- why it is an order of parts
 
--- Each of two files has a second part that clones from the other's first. They take turns; in neither order of the files are they taken
--- one after the other.
+-- Each of two files has a second part that clones from the other's first. They take turns; in
+-- neither order of the files are they taken one after the other.
 abbrev two_parts : ℕ → ℕ → List ℕ → List ℕ → List ℕ
 two_parts own other first second =
     stream_of 1 (

@@ -1,5 +1,5 @@
--- The groups that turns write make the store that the turns leave: a Body's edits find over the store at its completion what they found
--- when they came.
+-- The groups that turns write make the store that the turns leave: a Body's edits find over the
+-- store at its completion what they found when they came.
 use Rattle.std.specs.Prelude.{◌≡◌, ℕ, ◌+◌, Bool, true, false, ◌&&◌, List, [], ◌∷◌, ◌++◌, length, map, Option, None, Some, Result, Ok, Err, is_none, if◌then◌else◌}
 use Rattle.std.specs.Option.{option_map}
 use Rattle.std.specs.Str.{bytes_eq}

@@ -1,4 +1,5 @@
--- Turns one after the other: each is one of the moves, so what stands before the first one stands after any number of them.
+-- Turns one after the other: each is one of the moves, so what stands before the first one stands
+-- after any number of them.
 use Rattle.std.specs.Prelude.{◌≡◌, ◌⊎◌, ◌↔◌, ℕ, zero, suc, Bool, true, false, ◌&&◌, ◌||◌, List, [], ◌∷◌, ◌++◌, Option, None, Some, Result, Ok, Err, is_some, is_none, if◌then◌else◌}
 use Rattle.std.specs.List.{AllByRecursion, slice_get}
 use Rattle.std.specs.Option.{option_map}
@@ -419,7 +420,8 @@ no_completions c None e = refl
 no_completions c (Some r) e = ap (λ (b : Bool). if b then Completes r.taken ∷ [] else []) e
 
 module _ {C : Type 0} (zero_cell : C) (cells : Item → List C) (base : Store C) (w : Turns C) (n : ℕ) (k : Kept zero_cell cells base w) where
-  -- What stands between a completion and a head is what the first of at most two events of a turn made.
+  -- What stands between a completion and a head is what the first of at most two events of a turn
+  -- made.
   abbrev pub Done : Turns C → Store C → Type 0
   Done v now = (extra more : List Event) × (v.events ≡ (w.events ++ extra) ++ more) × AtMostOne extra × AtMostOne more × AreOneByOne zero_cell cells base (w.events ++ extra) now
 

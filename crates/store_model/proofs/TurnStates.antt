@@ -1,4 +1,5 @@
--- What the first groups of turns make is a store after some first turns, or one between a completion and the head behind it.
+-- What the first groups of turns make is a store after some first turns, or one between a
+-- completion and the head behind it.
 use Rattle.std.specs.Prelude.{◌≡◌, ◌≤◌, ◌⊎◌, ℕ, List, [], ◌∷◌, ◌++◌, length, map, Option, Some}
 use Rattle.std.proofs.Common.{refl, sym, ap, subst, ◌∙◌, inl, inr, arith, append_assoc, append-nil}
 use Rattle.send_model.specs.Reading.{Item}
@@ -17,7 +18,8 @@ module _ {A : Type 0} where
   no_rest [] zs e = refl
   no_rest (y ∷ ys) zs e = cc
 
-  -- what stands in front of a list of two parts of one element at most, and others: nothing, the first part, or both and more
+  -- what stands in front of a list of two parts of one element at most, and others: nothing, the
+  -- first part, or both and more
   in_front : (extra more a b rest : List A) → AtMostOne a → AtMostOne b → extra ++ more ≡ a ++ (b ++ rest) → (extra ≡ []) ⊎ ((extra ≡ a) ⊎ ((x : List A) × (extra ≡ (a ++ b) ++ x)))
   in_front [] more a b rest one two e = inl refl
   in_front (y ∷ extra) more [] [] rest one two e = inr (inr (y ∷ extra, refl))

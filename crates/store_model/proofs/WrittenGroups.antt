@@ -1,6 +1,7 @@
--- The groups that receiving writes make what receiving leaves, and each store that the first of them make is on the way there: an
--- induction over the items, in which the Body of the open part, if it were closed now, would complete the part as it is, and behind the
--- entries at the start all are complete but that of the part.
+-- The groups that receiving writes make what receiving leaves, and each store that the first of
+-- them make is on the way there: an induction over the items, in which the Body of the open part,
+-- if it were closed now, would complete the part as it is, and behind the entries at the start all
+-- are complete but that of the part.
 use Rattle.std.specs.Prelude.{◌≡◌, ℕ, ◌+◌, Bool, true, false, not, ◌&&◌, List, [], ◌∷◌, ◌++◌, length, Option, None, Some, Result, Ok, Err, is_none, if◌then◌else◌}
 use Rattle.std.specs.Option.{option_map}
 use Rattle.std.specs.Str.{bytes_eq}
@@ -106,7 +107,8 @@ keeps_edit store part open_part c s e keeps = record {
 -- ---- groups one after the other
 
 module _ (start : Store ℕ) where
-  -- Groups make one store after the other, each of which is on the way to the end, and the last one is the end.
+  -- Groups make one store after the other, each of which is on the way to the end, and the last one
+  -- is the end.
   abbrev pub Passes : Store ℕ → ℕ → Store ℕ → List Group → Type 0
   Passes end gate store [] = (store ≡ end) × IsPassed start end store
   Passes end gate store (group ∷ groups) =

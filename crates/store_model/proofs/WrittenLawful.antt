@@ -1,4 +1,5 @@
--- The groups that receiving files writes can be written: what is read of files has one version from a head to its END.
+-- The groups that receiving files writes can be written: what is read of files has one version from
+-- a head to its END.
 use Rattle.std.specs.Prelude.{◌≡◌, ℕ, zero, suc, ◌+◌, ◌-◌, Bool, true, false, List, [], ◌∷◌, ◌++◌, length, drop, Option, None, Some, Result, Ok, Err, if◌then◌else◌}
 use Rattle.std.specs.List.{AllByRecursion}
 use Rattle.std.specs.Option.{option_map}
@@ -11,7 +12,7 @@ use Rattle.send_model.specs.Spelling.{IsSpellable}
 use Rattle.send_model.specs.Reading.{Item, Ending, Whole, Faulty, Reading, Due, HeaderDue, CommandDue, Front, header_len, stream_version, front_of, due_after, with_item, may_end, ended, go_on, reads_from, reads, joined, input_from, input}
 use Rattle.send_model.specs.Store.{Head, State, After, head_of, step}
 use Rattle.send_model.specs.Receive.{byte_cells, start_of}
-use Rattle.send_model.specs.Renamed.{with_name, Names, name_for, named_as, renamed_items}
+use Rattle.send_model.specs.Overridden.{Override, Overrides, override_for, overridden_as, overridden_items}
 use Rattle.send_model.specs.Guards.{Guard, Watched, watched_step, guarded}
 use Rattle.send_model.specs.Counts.{is_end}
 use Rattle.store_model.specs.Stored.{Mark, Body, Group, is_edit, IsEdit, IsContent, IsGroup}
@@ -22,7 +23,7 @@ use Rattle.send_model.proofs.Canonical.{fields_first, spellable_first}
 use Rattle.send_model.proofs.ReadSpelled.{read_was_spelled}
 use Rattle.send_model.proofs.ReadCommands.{IsReadable, AreWritable, input_writable}
 use Rattle.send_model.proofs.ElementLaws.{all_both}
-use Rattle.send_model.proofs.Renaming.{renamed_is_writable}
+use Rattle.send_model.proofs.Overriding.{same_end, overridden_is_writable}
 use Rattle.send_model.proofs.LawfulStores.{head_uuid_fits}
 use Rattle.store_model.proofs.PassedStates.{sort_of}
 use Rattle.store_model.proofs.WrittenGroups.{edit_facts}
@@ -115,27 +116,17 @@ from_steady file (bytes ∷ files) are =
     let first = reads file bytes in
     joined_steady first.items first.end (input_from (file + 1) files) (reads_steady (suc (length bytes)) file HeaderDue 1 0 bytes are.0) (from_steady (file + 1) files are.1)
 
--- Names change neither the version of an item nor whether it is END.
-end_named : (name : List ℕ) (c : Command) → is_end (with_name name c) ≡ is_end c
-end_named name (Subvol uuid ctransid path) = refl
-end_named name (Snapshot uuid ctransid path clone_uuid clone_ctransid) = refl
-end_named name c = refl
+-- Overrides change neither the version of an item nor whether it is END.
+next_said : (o : Override) (item : Item) → next_of (overridden_as o item) ≡ next_of item
+next_said o item = ap (λ (b : Bool). if b then None else Some item.version) (same_end o item.command)
 
-next_named : (name : Option (List ℕ)) (item : Item) → next_of (named_as name item) ≡ next_of item
-next_named None item = refl
-next_named (Some name) item = ap (λ (b : Bool). if b then None else Some item.version) (end_named name item.command)
-
-version_named : (name : Option (List ℕ)) (item : Item) → (named_as name item).version ≡ item.version
-version_named None item = refl
-version_named (Some name) item = refl
-
-steady_named : (names : Names) (version : Option ℕ) (items : List Item) → IsSteady version items → IsSteady version (renamed_items names items)
-steady_named names version [] h = tt
-steady_named names None (item ∷ items) h =
-    subst (λ (v : Option ℕ). IsSteady v (renamed_items names items)) (sym (next_named (name_for names item.file) item)) (steady_named names (next_of item) items h)
-steady_named names (Some version) (item ∷ items) h = (
-  version_named (name_for names item.file) item ∙ h.0,
-  subst (λ (v : Option ℕ). IsSteady v (renamed_items names items)) (sym (next_named (name_for names item.file) item)) (steady_named names (next_of item) items h.1),
+steady_with : (overrides : Overrides) (version : Option ℕ) (items : List Item) → IsSteady version items → IsSteady version (overridden_items overrides items)
+steady_with overrides version [] h = tt
+steady_with overrides None (item ∷ items) h =
+    subst (λ (v : Option ℕ). IsSteady v (overridden_items overrides items)) (sym (next_said (override_for overrides item.file) item)) (steady_with overrides (next_of item) items h)
+steady_with overrides (Some version) (item ∷ items) h = (
+  h.0,
+  subst (λ (v : Option ℕ). IsSteady v (overridden_items overrides items)) (sym (next_said (override_for overrides item.file) item)) (steady_with overrides (next_of item) items h.1),
 )
 
 -- ---- groups
@@ -238,5 +229,5 @@ pub written_is_lawful : WrittenIsLawful
 unfolding input
 written_is_lawful format store guards files are =
     let read : List Item = (input files.bytes).items in
-    groups_lawful format (record { guards = guards; state = start_of store }) None None (renamed_items files.names read) tt (steady_named files.names None read (from_steady 1 files.bytes are.bytes))
-    (renamed_is_writable files.names read are.names (input_writable files.bytes are.bytes))
+    groups_lawful format (record { guards = guards; state = start_of store }) None None (overridden_items files.overrides read) tt (steady_with files.overrides None read (from_steady 1 files.bytes are.bytes))
+    (overridden_is_writable files.overrides read are.overrides (input_writable files.bytes are.bytes))

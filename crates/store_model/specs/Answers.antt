@@ -1,5 +1,6 @@
--- How the program answers any word, on streams or over a store: the exit status, the line on standard error, and what the answer says of
--- what was written and of the store's image. They are this program's own.
+-- How the program answers any word, on streams or over a store: the exit status, the line on
+-- standard error, and what the answer says of what was written and of the store's image. They are
+-- this program's own.
 use Rattle.std.specs.Prelude.{◌≡◌, ◌⊎◌, ⊤, ℕ, Bool, true, false, List, [], ◌∷◌, ◌++◌, codes}
 use Rattle.send_model.specs.Attribute.{IsBytes}
 use Rattle.send_model.specs.Store.{Store}
@@ -25,8 +26,9 @@ use Rattle.store_model.specs.Requests.{Request, OfStreams, InitStore, DropEntry,
 
 -- ---- the answers
 
--- How a run answers: as words on streams do; or that the store's device failed, that there is no store, no such entry or file, no room, a
--- store already, or a group whose checksum is that of other bytes.
+-- How a run answers: as words on streams do; or that the store's device failed, that there is no
+-- store, no such entry or file, no room, a store already, or a group whose checksum is that of
+-- other bytes.
 pub data Answer : Type 0 where
   OfAnyWord : answers.Answer → Answer
   StoreFault : Answer
@@ -75,7 +77,8 @@ answer_of (dues.Damaged group stored computed) = Damaged group stored computed
 
 -- ---- what stands before an end
 
--- Words on streams leave what they leave before an end over the store that is read, nothing where the image stands for no store.
+-- Words on streams leave what they leave before an end over the store that is read, nothing where
+-- the image stands for no store.
 abbrev pub StreamsBefore : Bool → streams.Request → List ℕ → Sources → List ℕ → Type 0
 StreamsBefore true request image read written = ByImage image (λ s. StandsBeforeOf request (base_over request read s) read written) (written ≡ [])
 StreamsBefore false request image read written = StandsBeforeOf request [] read written
@@ -88,8 +91,8 @@ ReceiveBefore image guards files written left = ByImage image (λ s. IsOnTheWay 
 abbrev pub PrintsBefore : List ℕ → (Store ℕ → List ℕ) → (written left : List ℕ) → Type 0
 PrintsBefore image whole written left = (left ≡ image) × ByImage image (λ s. IsFrontOf (whole s) written) (written ≡ [])
 
--- What stands where the inputs failed or there was no memory. A drop that is not done has changed nothing, scrub writes at its end, and
--- making a store takes no memory.
+-- What stands where there was no memory. A drop that is not done has changed nothing, scrub writes
+-- at its end, and making a store takes no memory.
 abbrev pub StandsBefore : Request → List (List ℕ) → List ℕ → NamedFiles → (written left : List ℕ) → Type 0
 StandsBefore (OfStreams request) words image files written left = (left ≡ image) × StreamsBefore (reads_store words (store_of request)) request image (read_of files) written
 StandsBefore (InitStore store) words image files written left = ⊥
@@ -120,6 +123,23 @@ ReadsAgain (ListStore store) = ⊥
 ReadsAgain (ShowEntry store name) = ⊥
 ReadsAgain (CatFile store name path) = ⊥
 ReadsAgain (ScrubStore store) = ⊥
+
+-- ---- what stands where an input failed, or was changed
+
+-- A word that opens a store does so before it reads a file, so there is one then.
+abbrev pub StreamsInput : Bool → streams.Request → List ℕ → Sources → List ℕ → Type 0
+StreamsInput true request image read written = ByImage image (λ s. StandsBeforeOf request (base_over request read s) read written) ⊥
+StreamsInput false request image read written = StandsBeforeOf request [] read written
+
+abbrev pub StandsInput : Request → List (List ℕ) → List ℕ → NamedFiles → (written left : List ℕ) → Type 0
+StandsInput (OfStreams request) words image files written left = (left ≡ image) × StreamsInput (reads_store words (store_of request)) request image (read_of files) written
+StandsInput (InitStore store) words image files written left = ⊥
+StandsInput (DropEntry store name) words image files written left = ⊥
+StandsInput (ReceiveFiles guards store at) words image files written left = ByImage image (λ s. IsOnTheWay image (new_guards guards) files s written left) ⊥
+StandsInput (ListStore store) words image files written left = ⊥
+StandsInput (ShowEntry store name) words image files written left = ⊥
+StandsInput (CatFile store name path) words image files written left = ⊥
+StandsInput (ScrubStore store) words image files written left = ⊥
 
 -- ---- what stands where standard output failed
 
@@ -177,8 +197,9 @@ StandsFault (ScrubStore store) words image files written left = (left ≡ image)
 abbrev pub DueSays : Request → AtEntry → Due → (written left : List ℕ) → Type 0
 DueSays request met due written left = IsDue request met.words met.image met.files due × Says request met due written left
 
--- An answer that words, files and image decide is the one that is due. Else an object of the outside failed or was changed, or there was no
--- memory. A request that is asked for is never answered as one that means nothing.
+-- An answer that words, files and image decide is the one that is due. Else an object of the
+-- outside failed or was changed, or there was no memory. A request that is asked for is never
+-- answered as one that means nothing.
 abbrev pub Answers : Request → AtEntry → Answer → (written left : List ℕ) → Type 0
 Answers request met (OfAnyWord Done) written left = DueSays request met (Ends DoneWhole) written left
 Answers request met (OfAnyWord (Refused verdict)) written left = DueSays request met (Ends (RefusedAt verdict)) written left
@@ -189,8 +210,8 @@ Answers request met (Missing what) written left = DueSays request met (dues.Miss
 Answers request met (LogFull end wanted limit) written left = DueSays request met (dues.LogFull end wanted limit) written left
 Answers request met (StoreThere size) written left = DueSays request met (dues.StoreThere size) written left
 Answers request met (Damaged group stored computed) written left = DueSays request met (dues.Damaged group stored computed) written left
-Answers request met (OfAnyWord InputFault) written left = ReadsFiles request × StandsBefore request met.words met.image met.files written left
-Answers request met (OfAnyWord (InputChanged file place)) written left = ReadsAgain request × StandsBefore request met.words met.image met.files written left
+Answers request met (OfAnyWord InputFault) written left = ReadsFiles request × StandsInput request met.words met.image met.files written left
+Answers request met (OfAnyWord (InputChanged file place)) written left = ReadsAgain request × StandsInput request met.words met.image met.files written left
 Answers request met (OfAnyWord OutputFault) written left = StandsCut request met.words met.image met.files written left
 Answers request met (OfAnyWord NoMemory) written left = StandsBefore request met.words met.image met.files written left
 Answers request met StoreFault written left = StandsFault request met.words met.image met.files written left
@@ -203,7 +224,8 @@ abbrev pub DueIsAnswered : Type 0
 DueIsAnswered = (request : Request) (words : List (List ℕ)) (image : List ℕ) (files : NamedFiles) (due : Due) (written left : List ℕ)
     → DueSays request (at_entry words image files) due written left → Answers request (at_entry words image files) (answer_of due) written left
 
--- Of the answers that are due, one is given, whatever was written. So one status and one note are due.
+-- Of the answers that are due, one is given, whatever was written. So one status and one note are
+-- due.
 abbrev pub OneIsAnswered : Type 0
 OneIsAnswered = (request : Request) (words : List (List ℕ)) (image : List ℕ) (files : NamedFiles) (due other : Due) (written left more_written more_left : List ℕ)
     → IsBytes image → Answers request (at_entry words image files) (answer_of due) written left → Answers request (at_entry words image files) (answer_of other) more_written more_left
@@ -213,7 +235,8 @@ OneIsAnswered = (request : Request) (words : List (List ℕ)) (image : List ℕ)
 abbrev pub DoneAlone : Type 0
 DoneAlone = (answer : Answer) → status_of answer ≡ 0 → answer ≡ OfAnyWord Done
 
--- Before anything was done nothing is written, and the image is as it was: each word but the one that makes a store may have no memory then.
+-- Before anything was done nothing is written, and the image is as it was: each word but the one
+-- that makes a store may have no memory then.
 abbrev pub NothingStandsBefore : Type 0
 NothingStandsBefore = (request : Request) (words : List (List ℕ)) (image : List ℕ) (files : NamedFiles)
     → ((store : ℕ) × (request ≡ InitStore store)) ⊎ StandsBefore request words image files [] image
@@ -250,7 +273,8 @@ ReceiveIsCut = (guards : List GuardSpec) (place at : ℕ) (words : List (List �
     → StandsFor image store → Answers (ReceiveFiles guards place at) (at_entry words image files) (OfAnyWord OutputFault) written left
     → IsProperFrontOf (received_lines store (new_guards guards) files) written
 
--- A drop that lacks memory has left the store as it was, and so has one whose device failed, unless it was due.
+-- A drop that lacks memory has left the store as it was, and so has one whose device failed, unless
+-- it was due.
 abbrev pub DropKeeps : Type 0
 DropKeeps = (place name : ℕ) (words : List (List ℕ)) (image : List ℕ) (files : NamedFiles) (store : Store ℕ) (written left : List ℕ) → StandsFor image store
     → (Answers (DropEntry place name) (at_entry words image files) (OfAnyWord NoMemory) written left → StandsFor left store)
@@ -268,7 +292,8 @@ IsPrinted (ShowEntry store name) words s whole = whole ≡ show_output (word_at 
 IsPrinted (CatFile store name path) words s whole = whole ≡ cat_output (word_at words name) (word_at words path) s
 IsPrinted (ScrubStore store) words s whole = ⊥
 
--- It has printed a front part of that without memory or where the device failed, and not all of it where standard output failed.
+-- It has printed a front part of that without memory or where the device failed, and not all of it
+-- where standard output failed.
 abbrev pub PrintsInFront : Type 0
 PrintsInFront = (request : Request) (words : List (List ℕ)) (image : List ℕ) (files : NamedFiles) (store : Store ℕ) (whole written left : List ℕ)
     → StandsFor image store → IsPrinted request words store whole

@@ -1,5 +1,5 @@
--- The one answer that is due to a word, where no device fails and memory is there: over a store by its image, the word's name and path,
--- and the files. The order of answers is this program's own.
+-- The one answer that is due to a word, where no device fails and memory is there: over a store by
+-- its image, the word's name and path, and the files. The order of answers is this program's own.
 use Rattle.std.specs.Prelude.{◌≡◌, ℕ, ◌+◌, ◌-◌, ◌==◌, List, [], ◌∷◌, ◌++◌, length, map, Option, None, Some, Ok, Err, nat_lt, is_some, if◌then◌else◌}
 use Rattle.std.specs.Str.{bytes_eq}
 use Rattle.send_model.specs.Command.{Command}
@@ -12,15 +12,16 @@ use Rattle.send_model.specs.Guards.{Guard, Watched, watched_step}
 use Rattle.send_model.specs.Counts.{is_end}
 use Rattle.send_model.specs.Due as dues
 use Rattle.send_model.specs.Due.{DoneWhole, RefusedAt, stop_due}
-use Rattle.store_model.specs.Image.{limit_of, reserve, front_of}
-use Rattle.store_model.specs.Stored.{body_bytes, is_edit, StandsFor, StandsForNone}
+use Rattle.store_model.specs.Image.{limit_of, reserve, front_of, HasGroups}
+use Rattle.store_model.specs.Stored.{Group, body_bytes, is_edit, StandsFor, StandsForNone}
 use Rattle.store_model.specs.NamedFiles.{NamedFiles, read_of}
 use Rattle.store_model.specs.States.{lines_behind}
+use Rattle.store_model.specs.Written.{groups_of}
 use Rattle.store_model.specs.StoreLines.{shown}
 use Rattle.store_model.specs.Scrub.{IsScrubbed, IsDamagedAt, IsNoStoreAt, scrub_line}
 
--- An answer: one that files decide alone, or that there is no store, no such entry or file, no room, a store already, or a group whose
--- checksum is that of other bytes.
+-- An answer: one that files decide alone, or that there is no store, no such entry or file, no
+-- room, a store already, or a group whose checksum is that of other bytes.
 pub data Due : Type 0 where
   Ends : dues.Due → Due
   NotStore : (group : ℕ) → Due
@@ -31,7 +32,8 @@ pub data Due : Type 0 where
 
 -- ---- words that open the store
 
--- Opening comes first: what is due over the store that the image stands for, or that it stands for none.
+-- Opening comes first: what is due over the store that the image stands for, or that it stands for
+-- none.
 abbrev pub OverStore : List ℕ → (Store ℕ → Due → Type 0) → Due → Type 0
 OverStore image over (NotStore group) = StandsForNone image group
 OverStore image over (Ends due) = (store : Store ℕ) × StandsFor image store × over store (Ends due)
@@ -79,7 +81,8 @@ cat_output name path store = elim (complete_named name store) [
 
 -- ---- room
 
--- The first of some pieces, each of so many bytes at a place, behind which there is no room for a checksum and a gate.
+-- The first of some pieces, each of so many bytes at a place, behind which there is no room for a
+-- checksum and a gate.
 unfoldable pub first_full : ℕ → List (ℕ × ℕ) → Option Due
 first_full limit [] = None
 first_full limit (piece ∷ pieces) = if nat_lt limit (piece.0 + piece.1 + reserve) then Some (LogFull piece.0 piece.1 limit) else first_full limit pieces
@@ -89,7 +92,8 @@ abbrev pub end_behind : ℕ → List (ℕ × ℕ) → ℕ
 end_behind end [] = end
 end_behind end (piece ∷ pieces) = end_behind (piece.0 + piece.1) pieces
 
--- A group that is put behind a gate in pieces of these lengths: its gate with its length, and the pieces.
+-- A group that is put behind a gate in pieces of these lengths: its gate with its length, and the
+-- pieces.
 abbrev pub pieces_from : ℕ → List ℕ → List (ℕ × ℕ)
 pieces_from place [] = []
 pieces_from place (len ∷ lens) = (place, len) ∷ pieces_from (place + len) lens
@@ -115,7 +119,8 @@ place_after (Some part) command place = if is_edit command then place else place
 
 -- ---- receive
 
--- The first item that ends receiving under guards, where the next bytes come at a place: it is refused, or there is no room for it.
+-- The first item that ends receiving under guards, where the next bytes come at a place: it is
+-- refused, or there is no room for it.
 unfoldable pub receive_from : ℕ → ℕ → Watched (State ℕ) → List Item → Option Due
 receive_from limit place w [] = None
 receive_from limit place w (item ∷ items) =
@@ -129,8 +134,8 @@ receive_from limit place w (item ∷ items) =
       ]
     ]
 
--- What a head leaves where there is no room for its groups: the part before it is complete, and its own entry is there if there was room
--- for its Mark.
+-- What a head leaves where there is no room for its groups: the part before it is complete, and its
+-- own entry is there if there was room for its Mark.
 abbrev pub left_full : ℕ → ℕ → Item → (before after : State ℕ) → Store ℕ
 left_full limit place item before after = if is_some (head_of item.command)
     then elim (first_full limit (pieces_from place (9 ∷ (1 + length (canonical 1 item.command)) ∷ []))) [ Some full ↦ completed before | None ↦ after.store ]
@@ -154,8 +159,8 @@ abbrev pub or_due : Option Due → Due → Due
 or_due None other = other
 or_due (Some due) other = due
 
--- Files, received under guards into a store whose closed gate stands at a place: each command as it is read, and last the end of
--- reading.
+-- Files, received under guards into a store whose closed gate stands at a place: each command as it
+-- is read, and last the end of reading.
 unfoldable pub receive_due : ℕ → ℕ → Store ℕ → List Guard → NamedFiles → Due
 receive_due limit gate store guards files = let read = (read_of files).limited in
     or_due (receive_from limit gate (record { guards = guards; state = start_of store }) read.items) (Ends (stop_due read.stop))
@@ -169,12 +174,14 @@ abbrev pub IsReceiveDue : List ℕ → List Guard → NamedFiles → Store ℕ �
 IsReceiveDue image guards files store due = (stands : StandsFor image store)
     × (due ≡ receive_due (limit_of stands.header) (length (front_of stands.header (map body_bytes stands.groups))) store guards files)
 
--- What stands on standard output, and what the image stands for, after any answer of receiving: the lines of the parts that are complete,
--- and the store that is left.
+-- What stands on standard output, and what the image stands for, after any answer of receiving: the
+-- lines of the parts that are complete, and the store that is left. Behind the groups that were
+-- there it has the first of those that receiving writes, which make that store.
 abbrev pub ReceiveSays : List ℕ → List Guard → NamedFiles → Store ℕ → (written image : List ℕ) → Type 0
 ReceiveSays before guards files store written image = (stands : StandsFor before store)
     × (let left = receive_left (limit_of stands.header) (length (front_of stands.header (map body_bytes stands.groups))) store guards files in
     (written ≡ lines_behind store left) × StandsFor image left)
+    × ((first : List Group) × (more : List Group) × (groups_of store guards (read_of files).reading.items ≡ first ++ more) × HasGroups stands.header (map body_bytes (stands.groups ++ first)) image)
 
 -- ---- drop
 

@@ -1,6 +1,7 @@
--- The image of a store: a header, and behind it a journal of groups, each behind a gate byte. A group counts if its
--- gate stands open, which is the byte 1; at any other byte the journal ends, and what lies behind means nothing.
--- Numbers stand least byte first. The format is this program's own.
+-- The image of a store: a header, and behind it a journal of groups, each behind a gate byte. A
+-- group counts if its gate stands open, which is the byte 1; at any other byte the journal ends,
+-- and what lies behind means nothing. Numbers stand least byte first. The format is this program's
+-- own.
 use Rattle.std.specs.Prelude.{◌≡◌, ◌≢◌, ◌⊎◌, ℕ, zero, suc, ◌+◌, ◌-◌, ◌^◌, ◌<◌, min, List, [], ◌∷◌, ◌++◌, length, take, flat_map, codes, refl}
 use Rattle.std.specs.List.{AllByRecursion}
 use Rattle.std.specs.Int.{w32, w64, to_le_bytes, from_le_bytes}
@@ -12,15 +13,16 @@ pub record Header : Type 0 where
   pub format : ℕ
   pub number : ℕ
 
--- There are two formats, and new images have format 2. Whether a group ends with a checksum of its body is said by the body's first
--- byte: 1 to 3 have none, and stand in images of format 1 alone; 4 to 6 have one, and stand in images of both. That is a rule for
--- bodies, which are the store's: nothing is asked of them here.
+-- There are two formats, and new images have format 2. Whether a group ends with a checksum of its
+-- body is said by the body's first byte: 1 to 3 have none, and stand in images of format 1 alone; 4
+-- to 6 have one, and stand in images of both. That is a rule for bodies, which are the store's:
+-- nothing is asked of them here.
 pub record IsHeader (header : Header) : Type 0 where
   pub format : (header.format ≡ 1) ⊎ (header.format ≡ 2)
   pub number_fits : header.number < 2 ^ 64
 
--- A header's bytes: a text and the number of the format in four bytes, and in eight bytes the number that limits the
--- size.
+-- A header's bytes: a text and the number of the format in four bytes, and in eight bytes the
+-- number that limits the size.
 abbrev pub start_of : ℕ → List ℕ
 start_of format = codes "sndstore" ++ to_le_bytes w32 format
 
@@ -39,11 +41,13 @@ usual_header = record { format = 2; number = 2 ^ 40 }
 abbrev pub group_of : List ℕ → List ℕ
 group_of body = (1 ∷ to_le_bytes w64 (length body)) ++ body
 
--- What a new group has as its body: bytes, and behind them in four bytes the checksum of all of them.
+-- What a new group has as its body: bytes, and behind them in four bytes the checksum of all of
+-- them.
 abbrev pub sealed : List ℕ → List ℕ
 sealed bytes = bytes ++ to_le_bytes w32 (crc_of 0 bytes)
 
--- The room that stays free behind what was put into a group: for its checksum, four bytes, and for the next gate.
+-- The room that stays free behind what was put into a group: for its checksum, four bytes, and for
+-- the next gate.
 abbrev pub reserve : ℕ
 reserve = 5
 
@@ -63,7 +67,8 @@ pub record HasGroups (header : Header) (bodies : List (List ℕ)) (image : List 
   pub lawful : IsHeader header
   pub lengths_fit : AllByRecursion IsShort bodies
 
--- What is no group and no closed gate: no byte at all, or an open gate with a length or a body that is cut short.
+-- What is no group and no closed gate: no byte at all, or an open gate with a length or a body that
+-- is cut short.
 abbrev pub IsCutShort : List ℕ → Type 0
 IsCutShort [] = Unit {0}
 IsCutShort (gate ∷ rest) = (gate ≡ 1) × (length rest < 8 + from_le_bytes w64 (take 8 rest))
@@ -86,8 +91,8 @@ pub record IsTorn (image : List ℕ) (groups : ℕ) : Type 0 where
   pub lawful : IsHeader header
   pub lengths_fit : AllByRecursion IsShort bodies
 
--- The bytes are no image of a store, and the fault is that of this group; the header counts as group 0, and groups
--- are numbered from 1.
+-- The bytes are no image of a store, and the fault is that of this group; the header counts as
+-- group 0, and groups are numbered from 1.
 abbrev pub HasFault : List ℕ → ℕ → Type 0
 HasFault image zero = HasHeader image → ⊥
 HasFault image (suc groups) = IsTorn image groups
@@ -136,8 +141,8 @@ example_sealed : group_of (sealed nine_digits)
 unfolding nine_digits shift shifts crc_byte crc_of
 example_sealed = refl
 
--- without its last byte the image with the group of two lacks the gate of group 2, and without the next the body of
--- group 1 is cut short
+-- without its last byte the image with the group of two lacks the gate of group 2, and without the
+-- next the body of group 1 is cut short
 example_cut : IsCutShort (1 ∷ 2 ∷ 0 ∷ 0 ∷ 0 ∷ 0 ∷ 0 ∷ 0 ∷ 0 ∷ 7 ∷ [])
 example_cut = (refl, lit< tt)
 

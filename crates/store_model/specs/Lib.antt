@@ -13,3 +13,9 @@ pub mod Answers
 pub mod StoreLaws
 pub mod Turns
 pub mod TurnLaws
+pub mod Meanings
+pub mod TurnCells
+pub mod TurnDues
+pub mod TurnAnswers
+pub mod TurnDueLaws
+pub mod TurnMeanings

@@ -1,5 +1,5 @@
--- What all words ask for, and what is due to them: by the words, the image of the store that they name, and the files. The words are this
--- program's own.
+-- What all words ask for, and what is due to them: by the words, the image of the store that they
+-- name, and the files. The words are this program's own.
 use Rattle.std.specs.Prelude.{◌<◌, ◌+◌, ◌⊎◌, ◌≡◌, ℕ, Bool, true, false, not, List, [], ◌∷◌, ◌++◌, Option, None, Some, codes, slice_index_or, if◌then◌else◌}
 use Rattle.send_model.specs.Store.{Store}
 use Rattle.send_model.specs.Attribute.{IsBytes}
@@ -18,8 +18,8 @@ use Rattle.store_model.specs.Stored.{StandsForNone, StandsFor, dropped}
 use Rattle.store_model.specs.StoreLines.{listed}
 use Rattle.store_model.specs.Dues.{receive_left, receive_due, Due, Ends, NotStore, Missing, LogFull, StoreThere, Damaged, OverStore, list_due, show_due, cat_due, show_output, cat_output, init_due, IsReceiveDue, IsDropDue, IsScrubDue, ReceiveSays}
 
--- A request: one on streams, or one over a store. A store, a name, a path and the first of some files are given by their places in the
--- words, counted from 0.
+-- A request: one on streams, or one over a store. A store, a name, a path and the first of some
+-- files are given by their places in the words, counted from 0.
 pub data Request : Type 0 where
   OfStreams : (request : streams.Request) → Request
   InitStore : (store : ℕ) → Request
@@ -54,8 +54,8 @@ as_receive (Some (Export store files)) = None
 as_receive (Some (Gen count seed)) = None
 as_receive (Some (Trial count seed)) = None
 
--- `init STORE`, `drop STORE NAME`, `receive [GUARD..] STORE FILE..`, `list STORE`, `show STORE NAME`, `cat STORE NAME PATH` and
--- `scrub STORE`.
+-- `init STORE`, `drop STORE NAME`, `receive [GUARD..] STORE FILE..`, `list STORE`, `show STORE
+-- NAME`, `cat STORE NAME PATH` and `scrub STORE`.
 unfoldable pub over_store : List (List ℕ) → Option Request
 over_store [] = None
 over_store (word ∷ words) =
@@ -108,7 +108,8 @@ abbrev pub IsStreamsDue : Bool → streams.Request → List ℕ → Sources → 
 IsStreamsDue true request image read due = OverStore image (λ s d. d ≡ Ends (due_of request (base_over request read s) read)) due
 IsStreamsDue false request image read due = due ≡ Ends (due_of request [] read)
 
--- What is written then. There is no other answer than one that files decide, where there is a store.
+-- What is written then. There is no other answer than one that files decide, where there is a
+-- store.
 abbrev pub StreamsWrite : streams.Request → Store ℕ → Sources → Due → List ℕ → Type 0
 StreamsWrite request base read (Ends due) written = EndSaysOf request base read due written
 StreamsWrite request base read (NotStore group) written = ⊥
@@ -130,7 +131,8 @@ IsDue (ShowEntry store name) words image files due = OverStore image (λ s d. d 
 IsDue (CatFile store name path) words image files due = OverStore image (λ s d. d ≡ cat_due (word_at words name) (word_at words path) s) due
 IsDue (ScrubStore store) words image files due = (written : List ℕ) × IsScrubDue image due written
 
--- What a word that reads writes where all was done, and nothing where something is missing or there is no store.
+-- What a word that reads writes where all was done, and nothing where something is missing or there
+-- is no store.
 abbrev pub Printed : Due → List ℕ → List ℕ → Type 0
 Printed (Ends due) whole written = written ≡ whole
 Printed (NotStore group) whole written = written ≡ []
@@ -161,12 +163,14 @@ DropLeaves (Damaged group stored computed) name store left = ⊥
 abbrev pub ByImage : List ℕ → (Store ℕ → Type 0) → Type 0 → Type 0
 ByImage image P none = ((store : Store ℕ) → StandsFor image store → P store) × ((group : ℕ) → StandsForNone image group → none)
 
--- Words on streams write what they say, and nothing where the image that is read stands for no store.
+-- Words on streams write what they say, and nothing where the image that is read stands for no
+-- store.
 abbrev pub StreamsSay : Bool → streams.Request → List ℕ → Sources → Due → List ℕ → Type 0
 StreamsSay true request image read due written = ByImage image (λ s. StreamsWrite request (base_over request read s) read due written) (written ≡ [])
 StreamsSay false request image read due written = StreamsWrite request [] read due written
 
--- What a request meets when it begins: its words, the image of the store, and the files that it names.
+-- What a request meets when it begins: its words, the image of the store, and the files that it
+-- names.
 pub record AtEntry : Type 0 where
   pub words : List (List ℕ)
   pub image : List ℕ
@@ -175,7 +179,8 @@ pub record AtEntry : Type 0 where
 abbrev pub at_entry : (words : List (List ℕ)) (image : List ℕ) (files : NamedFiles) → AtEntry
 at_entry words image files = record { words = words; image = image; files = files }
 
--- What was written, and what the image is or stands for afterwards. Where it stands for no store, nothing is written or changed.
+-- What was written, and what the image is or stands for afterwards. Where it stands for no store,
+-- nothing is written or changed.
 abbrev pub Says : Request → AtEntry → Due → (written left : List ℕ) → Type 0
 Says (OfStreams request) met due written left = (left ≡ met.image) × StreamsSay (reads_store met.words (store_of request)) request met.image (read_of met.files) due written
 Says (InitStore store) met due written left = (written ≡ []) × InitLeaves due met.image left
@@ -203,7 +208,8 @@ ReceiveIsAudit = (limit gate : ℕ) (store : Store ℕ) (guards : List Guard) (f
     → (receive_due limit gate store guards files ≡ Ends (audit_due_of store guards (read_of files).limited))
     ⊎ ((end : ℕ) × (wanted : ℕ) × (receive_due limit gate store guards files ≡ LogFull end wanted limit) × (limit < end + wanted + reserve))
 
--- The store that is left is one that receiving passes through, with all parts complete that are complete in it.
+-- The store that is left is one that receiving passes through, with all parts complete that are
+-- complete in it.
 abbrev pub LeftIsPassed : Type 0
 LeftIsPassed = (limit gate : ℕ) (store : Store ℕ) (guards : List Guard) (files : NamedFiles)
     → let left = receive_left limit gate store guards files in

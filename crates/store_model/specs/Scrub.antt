@@ -1,5 +1,5 @@
--- What `scrub` finds in an image: it goes through the groups and looks at their kinds and checksums, and not at what they say. This
--- program's own.
+-- What `scrub` finds in an image: it goes through the groups and looks at their kinds and
+-- checksums, and not at what they say. This program's own.
 use Rattle.std.specs.Prelude.{◌≡◌, ◌≢◌, ◌⊎◌, ◌<◌, ℕ, zero, suc, List, [], ◌∷◌, ◌++◌, length, get_or, nat_lt, codes, if◌then◌else◌}
 use Rattle.std.specs.List.{AllByRecursion, count_by}
 use Rattle.std.specs.Int.{w32, from_le_bytes}
@@ -68,7 +68,8 @@ pub record HasBody (fault : List ℕ → Type 0) (rest : List ℕ) : Type 0 wher
   pub bytes : rest ≡ group_of body ++ others
   pub is : fault body
 
--- The first fault is that of this group: its checksum, or another one. The header counts as group 0.
+-- The first fault is that of this group: its checksum, or another one. The header counts as group
+-- 0.
 abbrev pub IsDamagedAt : List ℕ → ℕ → ℕ → ℕ → Type 0
 IsDamagedAt image zero stored computed = ⊥
 IsDamagedAt image (suc count) stored computed = FailsWith (λ format rest. HasBody (λ body. IsDamaged body stored computed) rest) image count

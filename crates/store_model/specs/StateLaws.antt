@@ -25,7 +25,8 @@ abbrev pub PassesWhatItLeaves : Type 0 → Type 0
 PassesWhatItLeaves C = (zero_cell : C) (cells : Item → List C) (store : Store C) (guards : List Guard) (items : List Item)
     → let after = (received zero_cell cells store guards items).state.state.store in IsBetween (complete_behind store after) store after after
 
--- And through what a head or END completes that no guard refuses, before this item does anything else.
+-- And through what a head or END completes that no guard refuses, before this item does anything
+-- else.
 abbrev pub PassesWhatIsCompleted : Type 0 → Type 0
 PassesWhatIsCompleted C = (zero_cell : C) (cells : Item → List C) (store : Store C) (guards : List Guard) (items : List Item) (item : Item)
     → let before = (received zero_cell cells store guards items).state in (received zero_cell cells store guards items).refused ≡ None
@@ -37,12 +38,14 @@ abbrev pub FilesAreItems : Type 0
 FilesAreItems = (store : Store ℕ) (guards : List Guard) (files : NamedFiles)
     → left_by store guards files ≡ (received 0 byte_cells store guards (read_of files).reading.items).state.state.store
 
--- What is read of files up to the limit of their lengths are the first items of all that stand in them.
+-- What is read of files up to the limit of their lengths are the first items of all that stand in
+-- them.
 abbrev pub LimitedIsFront : Type 0
 LimitedIsFront = (files : NamedFiles) → AreGiven files → (rest : List Item) × ((read_of files).reading.items ≡ (read_of files).limited.items ++ rest)
 
--- Of a store on the way: it begins with the entries at the start, as they were; so many of those behind them are complete; and these are
--- the first of those that are complete at the end, as they are there.
+-- Of a store on the way: it begins with the entries at the start, as they were; so many of those
+-- behind them are complete; and these are the first of those that are complete at the end, as they
+-- are there.
 abbrev pub BetweenHasThem : Type 0 → Type 0
 BetweenHasThem C = (least : ℕ) (start end now : Store C) → IsBetween least start end now
     → (now ≡ start ++ drop (length start) now) × (least ≤ complete_behind start now)
@@ -58,7 +61,8 @@ FirstLinesStandWhole C = (parts : Store C) (written rest : List ℕ) → HasNumb
     → flat_map complete_line parts ≡ written ++ rest
     → (part : List ℕ) × (written ≡ flat_map complete_line (take (lines_in written) parts) ++ part) × (lines_in part ≡ 0)
 
--- What files of bytes leave, with names that an attribute has room for, has numbers of eight bytes, if the store has.
+-- What files of bytes leave, with names that an attribute has room for, has numbers of eight bytes,
+-- if the store has.
 abbrev pub ReceivedHasNumbers : Type 0
 ReceivedHasNumbers = (store : Store ℕ) (guards : List Guard) (files : NamedFiles) → HasNumbers store → AreGiven files
     → HasNumbers (left_by store guards files)

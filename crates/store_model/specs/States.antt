@@ -1,5 +1,5 @@
--- The stores that receiving files passes through, any of which a crash may leave; and the lines that say which parts are complete. They
--- are this program's own.
+-- The stores that receiving files passes through, any of which a crash may leave; and the lines
+-- that say which parts are complete. They are this program's own.
 use Rattle.std.specs.Prelude.{◌≡◌, ◌⊎◌, ℕ, ◌==◌, ◌≤◌, ◌<◌, ◌^◌, Bool, true, List, [], ◌∷◌, ◌++◌, length, drop, None, codes, is_some}
 use Rattle.std.specs.List.{AllByRecursion, filter, flat_map, count_by}
 use Rattle.send_model.specs.Reading.{Item}
@@ -24,8 +24,8 @@ abbrev pub HasBegun : {S : Type 0} → List (Entry S) → List (Entry S) → Lis
 HasBegun before [] store = ⊥
 HasBegun before (e ∷ others) store = store ≡ before ++ as_begun e ∷ []
 
--- A store on the way from one to another, which has entries more behind its own: some of these are complete, at least so many, and the
--- next one is unfinished or not there.
+-- A store on the way from one to another, which has entries more behind its own: some of these are
+-- complete, at least so many, and the next one is unfinished or not there.
 pub record IsBetween {S : Type 0} (least : ℕ) (start end store : List (Entry S)) : Type 0 where
   pub complete : List (Entry S)
   pub others : List (Entry S)
@@ -45,7 +45,8 @@ unfoldable pub received : {C : Type 0} → C → (Item → List C) → Store C �
 received zero_cell cells store guards items =
     run_by (watched_step (λ s item. step zero_cell (cells item) s item.command)) (record { guards = guards; state = start_of store }) items
 
--- The store that receiving files leaves, each part under the name that is given for it, whether or not they are accepted.
+-- The store that receiving files leaves, each part under the name that is given for it, whether or
+-- not they are accepted.
 abbrev pub left_by : Store ℕ → List Guard → NamedFiles → Store ℕ
 left_by store guards files = (receive_watched 0 byte_cells store guards (read_of files).reading).state.state.store
 

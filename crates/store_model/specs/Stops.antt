@@ -1,5 +1,5 @@
--- What stands where receiving ends before its answer: at a fault of a device, for want of memory, or where a crash ends it. This program's
--- own.
+-- What stands where receiving ends before its answer: at a fault of a device, for want of memory,
+-- or where a crash ends it. This program's own.
 use Rattle.std.specs.Prelude.{◌≡◌, ◌≤◌, ℕ, List, [], ◌++◌, map}
 use Rattle.send_model.specs.Store.{Store}
 use Rattle.send_model.specs.Guards.{Guard}
@@ -9,8 +9,9 @@ use Rattle.store_model.specs.NamedFiles.{NamedFiles, read_of, AreGiven}
 use Rattle.store_model.specs.States.{complete_behind, HasNumbers, received_lines, lines_in, IsAcknowledged}
 use Rattle.store_model.specs.Written.{groups_of}
 
--- Behind the groups that were there stand the first of those that receiving writes. The image stands for a store that receiving passes
--- through, in which each part is complete whose line stands whole in what was written; and that is the first of all that is printed.
+-- Behind the groups that were there stand the first of those that receiving writes. The image
+-- stands for a store that receiving passes through, in which each part is complete whose line
+-- stands whole in what was written; and that is the first of all that is printed.
 pub record IsOnTheWay (before : List ℕ) (guards : List Guard) (files : NamedFiles) (store : Store ℕ) (written image : List ℕ) : Type 0 where
   pub stands : StandsFor before store
   pub first : List Group
@@ -37,8 +38,8 @@ AllIsOnTheWay = (before image : List ℕ) (guards : List Guard) (files : NamedFi
     → HasGroups stands.header (map body_bytes (stands.groups ++ groups_of store guards (read_of files).reading.items)) image
     → IsOnTheWay before guards files store (received_lines store guards files) image
 
--- And so is each with the first of the groups, which stands for one of the states, as long as no more lines were written than parts are
--- complete in it.
+-- And so is each with the first of the groups, which stands for one of the states, as long as no
+-- more lines were written than parts are complete in it.
 abbrev pub FirstIsOnTheWay : Type 0
 FirstIsOnTheWay = (before image : List ℕ) (guards : List Guard) (files : NamedFiles) (store : Store ℕ) (stands : StandsFor before store) (first more : List Group)
     → AreGiven files → groups_of store guards (read_of files).reading.items ≡ first ++ more → HasGroups stands.header (map body_bytes (stands.groups ++ first)) image

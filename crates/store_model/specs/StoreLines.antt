@@ -1,4 +1,5 @@
--- What `list` prints of a store and `show` of one of its subvolumes. These forms are this program's own.
+-- What `list` prints of a store and `show` of one of its subvolumes. These forms are this program's
+-- own.
 use Rattle.std.specs.Prelude.{ℕ, List, ◌++◌, length, Option, None, Some, codes}
 use Rattle.std.specs.List.{flat_map}
 use Rattle.std.specs.Fmt.{decimal}
@@ -65,8 +66,8 @@ inode_lines entry = inode_line entry.0 entry.1 ++ flat_map (xattr_line entry.0) 
 unfoldable pub name_line : ((ℕ × List ℕ) × ℕ) → List ℕ
 name_line name = line (codes "name" ++ and_number name.0.0 ++ and_field (escaped name.0.1) ++ and_number name.1)
 
--- A subvolume with its name and key, and the number that its next inode would get; its inodes by number; its names by directory and
--- then by bytes.
+-- A subvolume with its name and key, and the number that its next inode would get; its inodes by
+-- number; its names by directory and then by bytes.
 unfoldable pub shown : {C : Type 0} → List ℕ → Key → Subvolume C → List ℕ
 shown name key s =
     line (codes "subvol" ++ and_field (escaped name) ++ and_field (uuid_text key.uuid) ++ and_number key.ctransid ++ and_number s.next)

@@ -1,5 +1,5 @@
--- The store that an image stands for: what its groups say, and what they make one after the other, starting from no
--- entries. The format is this program's own.
+-- The store that an image stands for: what its groups say, and what they make one after the other,
+-- starting from no entries. The format is this program's own.
 use Rattle.std.specs.Prelude.{◌≡◌, ◌⊎◌, ℕ, zero, suc, ◌+◌, Bool, true, false, not, ◌&&◌, List, [], ◌∷◌, ◌++◌, length, map, get_or, Option, None, Some, Ok, Err, is_none, if◌then◌else◌}
 use Rattle.std.specs.List.{AllByRecursion, filter, range_with_len}
 use Rattle.std.specs.Option.{option_map}
@@ -15,8 +15,8 @@ use Rattle.store_model.specs.Image.{Header, IsHeader, HasHeader, HasGroups, IsCu
 
 -- ---- what a group says
 
--- A head that begins an entry; the edits of the unfinished entry of a uuid, in a version, which complete it; or the name of an entry
--- that is dropped.
+-- A head that begins an entry; the edits of the unfinished entry of a uuid, in a version, which
+-- complete it; or the name of an entry that is dropped.
 pub data Content : Type 0 where
   Mark : (head : Command) → Content
   Body : (uuid : List ℕ) (version : ℕ) (commands : List Command) → Content
@@ -33,7 +33,8 @@ number_of is_sealed (Mark head) = if is_sealed then 4 else 1
 number_of is_sealed (Body uuid version commands) = if is_sealed then 5 else 2
 number_of is_sealed (Drop name) = if is_sealed then 6 else 3
 
--- What stands behind it: the frame of a head, the frames of the edits behind the uuid and one byte for their version, or a name.
+-- What stands behind it: the frame of a head, the frames of the edits behind the uuid and one byte
+-- for their version, or a name.
 abbrev pub content_bytes : Content → List ℕ
 content_bytes (Mark head) = canonical 1 head
 content_bytes (Body uuid version commands) = uuid ++ version ∷ canonical_all version commands
@@ -51,7 +52,8 @@ is_edit command = is_none (head_of command) && not (is_end command)
 abbrev pub IsEdit : ℕ → Command → Type 0
 IsEdit version command = (is_edit command ≡ true) × IsSpellable version command
 
--- What can be said: commands that the version has a spelling for, and a uuid of 16 bytes. A head is spelled in version 1.
+-- What can be said: commands that the version has a spelling for, and a uuid of 16 bytes. A head is
+-- spelled in version 1.
 abbrev pub IsContent : Content → Type 0
 IsContent (Mark head) = IsSpellable 1 head
 IsContent (Body uuid version commands) = (length uuid ≡ 16) × (is_version version ≡ true) × AllByRecursion (IsEdit version) commands
@@ -68,7 +70,8 @@ pub record IsGroup (format : ℕ) (group : Group) : Type 0 where
 abbrev pub Putting : Type 0 → Type 0
 Putting C = ℕ → List ℕ → List C
 
--- The bytes themselves, or, of each byte, the place where it stands; a cell without a place is a zero cell.
+-- The bytes themselves, or, of each byte, the place where it stands; a cell without a place is a
+-- zero cell.
 abbrev pub as_bytes : Putting ℕ
 as_bytes place bytes = bytes
 
@@ -99,7 +102,8 @@ unfoldable pub unfinished_at : {S : Type 0} → List ℕ → List (Entry S) → 
 unfinished_at uuid [] = None
 unfinished_at uuid (e ∷ store) = if is_unfinished uuid e then Some e else unfinished_at uuid store
 
--- The part of an unfinished entry as it starts: with a root alone, or as its parent is now; none where that is there no more.
+-- The part of an unfinished entry as it starts: with a root alone, or as its parent is now; none
+-- where that is there no more.
 abbrev pub started : {C : Type 0} → Store C → Entry (Subvolume C) → Option (State C)
 started store e = elim (start_from store e.parent) [
   | Err refusal ↦ None
@@ -109,7 +113,8 @@ started store e = elim (start_from store e.parent) [
 unfoldable pub resumed : {C : Type 0} → Store C → List ℕ → Option (State C)
 resumed store uuid = elim (unfinished_at uuid store) [ None ↦ None | Some e ↦ started store e ]
 
--- The edits of a part one after the other, the first of whose frames stands at a place; none where one of them is refused.
+-- The edits of a part one after the other, the first of whose frames stands at a place; none where
+-- one of them is refused.
 unfoldable pub edits_made : {C : Type 0} → C → Putting C → ℕ → ℕ → State C → List Command → Option (State C)
 edits_made zero_cell put version place state [] = Some state
 edits_made zero_cell put version place state (c ∷ commands) =
@@ -168,7 +173,8 @@ pub record Stands {C : Type 0} (zero_cell : C) (put : Putting C) (image : List �
 abbrev pub StandsFor : List ℕ → Store ℕ → Type 0
 StandsFor image store = Stands 0 as_bytes image store
 
--- A group is there whole, and whatever it says, if anything, is at fault over the store of the groups before it.
+-- A group is there whole, and whatever it says, if anything, is at fault over the store of the
+-- groups before it.
 pub record IsBadGroup (format gate : ℕ) (store : Store ℕ) (rest : List ℕ) : Type 0 where
   pub body : List ℕ
   pub others : List ℕ
@@ -177,7 +183,8 @@ pub record IsBadGroup (format gate : ℕ) (store : Store ℕ) (rest : List ℕ) 
   pub refused : (group : Group) → IsGroup format group → body_bytes group ≡ body
       → made 0 as_bytes (body_at gate) store group.content ≡ None
 
--- Behind so many groups that make a store stands the first one at fault: it is cut short, or it is bad.
+-- Behind so many groups that make a store stands the first one at fault: it is cut short, or it is
+-- bad.
 pub record FailsBehind (image : List ℕ) (count : ℕ) : Type 0 where
   pub header : Header
   pub lawful : IsHeader header
@@ -190,8 +197,8 @@ pub record FailsBehind (image : List ℕ) (count : ℕ) : Type 0 where
   pub bytes : image ≡ front_of header (map body_bytes groups) ++ rest
   pub fault : IsCutShort rest ⊎ IsBadGroup header.format (length (front_of header (map body_bytes groups))) store rest
 
--- An image stands for no store, and the first fault is that of this group; the header counts as group 0, and groups are numbered
--- from 1.
+-- An image stands for no store, and the first fault is that of this group; the header counts as
+-- group 0, and groups are numbered from 1.
 abbrev pub StandsForNone : List ℕ → ℕ → Type 0
 StandsForNone image zero = HasHeader image → ⊥
 StandsForNone image (suc count) = FailsBehind image count

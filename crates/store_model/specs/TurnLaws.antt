@@ -38,14 +38,16 @@ pub record IsPart (part : Taken) : Type 0 where
   pub is_head : head_of part.head.command ≡ Some head
   pub edits : AllByRecursion (λ item. (head_of item.command ≡ None) × (is_end item.command ≡ false)) part.edits
 
--- What a WRITE puts, wherever its bytes stand in an image, is what it put when its item came. So it is of bytes.
+-- What a WRITE puts, wherever its bytes stand in an image, is what it put when its item came. So it
+-- is of bytes.
 abbrev pub PutsCells : {C : Type 0} → Putting C → (Item → List C) → Type 0
 PutsCells put cells = (place : ℕ) (item : Item) → put place (bytes_of item.command) ≡ cells item
 
--- Of a store that events made of one at entry: receiving the completed parts one after the other, in the order of their completion, on
--- the store at entry, is accepted, and adds an entry for each of them in this order. The complete entries are these and those of the
--- store at entry. The unfinished ones are those of the store at entry, and one for each part that began and did not complete. Groups
--- behind those of the store at entry, one for each of the events, make it.
+-- Of a store that events made of one at entry: receiving the completed parts one after the other,
+-- in the order of their completion, on the store at entry, is accepted, and adds an entry for each
+-- of them in this order. The complete entries are these and those of the store at entry. The
+-- unfinished ones are those of the store at entry, and one for each part that began and did not
+-- complete. Groups behind those of the store at entry, one for each of the events, make it.
 pub record AreOneByOne {C : Type 0} (zero_cell : C) (cells : Item → List C) (entry : Store C) (events : List Event) (store : Store C) : Type 0 where
   pub new : Store C
   pub accepted : one_by_one zero_cell cells entry events ≡ record { state = start_of (entry ++ new); refused = None }
@@ -81,7 +83,8 @@ pub record IsHeadOf {C : Type 0} (sessions : List (Session C)) (item : Item) : T
   pub stands : IsIn item session.items
   pub is_head : is_some (head_of item.command) ≡ true
 
--- Each completed part is a part of what a session reads, and each part that began began with a head that one reads.
+-- Each completed part is a part of what a session reads, and each part that began began with a head
+-- that one reads.
 abbrev pub PartsAreRead : Type 0 → Type 0
 PartsAreRead C = (zero_cell : C) (cells : Item → List C) (store : Store C) (sessions : List (Session C)) (turns : List ℕ)
     → AllByRecursion (λ s. s.part ≡ None) sessions → let end = after_turns zero_cell cells (at_entry store sessions) turns in
@@ -91,17 +94,19 @@ PartsAreRead C = (zero_cell : C) (cells : Item → List C) (store : Store C) (se
 abbrev pub part_file : Taken → List ℕ
 part_file part = stream_of 2 (part.head.command ∷ map (λ item. item.command) part.edits)
 
--- Of sessions of commands that the format can say: the files of the completed parts, in the order of their completion, are accepted one
--- after the other on the store at entry, and leave the same entries.
+-- Of sessions of commands that the format can say: the files of the completed parts, in the order
+-- of their completion, are accepted one after the other on the store at entry, and leave the same
+-- entries.
 abbrev pub FilesAreOneByOne : Type 0
 FilesAreOneByOne = (store : Store ℕ) (sessions : List (Session ℕ)) (turns : List ℕ) → IsStore store → AllByRecursion (λ s. s.part ≡ None) sessions
     → AllByRecursion (λ s. AllByRecursion (λ item. IsSpellable 2 item.command) s.items) sessions
     → let end = after_turns 0 byte_cells (at_entry store sessions) turns in (is : AreOneByOne 0 byte_cells store end.events end.store)
     × (receive store (map part_file (completed_parts end.events)) ≡ record { state = start_of (store ++ is.new); refused = None })
 
--- Files of bytes that take turns, by any schedule, under any guards: after all turns, the completed parts were read from the files, and
--- receiving them one after the other, in the order of their completion and as files of their own, leaves the complete entries that the
--- turns left; each session is over; and the groups that the turns wrote make the store.
+-- Files of bytes that take turns, by any schedule, under any guards: after all turns, the completed
+-- parts were read from the files, and receiving them one after the other, in the order of their
+-- completion and as files of their own, leaves the complete entries that the turns left; each
+-- session is over; and the groups that the turns wrote make the store.
 pub record AreInTurn (store : Store ℕ) (sessions : List (Session ℕ)) (end : Turns ℕ) : Type 0 where
   pub order : AreOneByOne 0 byte_cells store end.events end.store
   pub received : receive store (map part_file (completed_parts end.events)) ≡ record { state = start_of (store ++ order.new); refused = None }
@@ -132,7 +137,8 @@ LastIsEnd [] = ⊥
 LastIsEnd (item ∷ []) = item.command ≡ End
 LastIsEnd (item ∷ next ∷ items) = LastIsEnd (next ∷ items)
 
--- Where no session is refused, and each one's reading, if it is whole, ends with END, each part that began is complete.
+-- Where no session is refused, and each one's reading, if it is whole, ends with END, each part
+-- that began is complete.
 abbrev pub NoneIsLeftOpen : Type 0 → Type 0
 NoneIsLeftOpen C = (zero_cell : C) (cells : Item → List C) (store : Store C) (schedule : List ℕ) (sessions : List (Session C))
     → IsStore store → AllByRecursion (λ s. s.part ≡ None) sessions → AllByRecursion (λ s. s.end ≡ Whole → LastIsEnd s.items) sessions
@@ -147,7 +153,8 @@ FilesLeaveNoneOpen = (store : Store ℕ) (schedule : List ℕ) (files : List (Li
 
 -- ---- what a crash may leave
 
--- The store after some first turns, or after these and the completion of the next one, without the head that completed it.
+-- The store after some first turns, or after these and the completion of the next one, without the
+-- head that completed it.
 pub record IsTurnState {C : Type 0} (zero_cell : C) (cells : Item → List C) (w : Turns C) (turns : List ℕ) (now : Store C) : Type 0 where
   pub first : List ℕ
   pub rest : List ℕ
@@ -164,23 +171,23 @@ abbrev pub FrontStatesAreStates : Type 0 → Type 0
 FrontStatesAreStates C = (zero_cell : C) (cells : Item → List C) (w : Turns C) (first rest : List ℕ) (now : Store C)
     → IsTurnState zero_cell cells w first now → IsTurnState zero_cell cells w (first ++ rest) now
 
--- What a crash may leave is what the first of the events made: each part that completed among them is there as if it had been received
--- alone in the order of completion, and no other.
+-- What a crash may leave is what the first of the events made: each part that completed among them
+-- is there as if it had been received alone in the order of completion, and no other.
 abbrev pub StatesAreOneByOne : Type 0 → Type 0
 StatesAreOneByOne C = (zero_cell : C) (cells : Item → List C) (store : Store C) (sessions : List (Session C)) (turns : List ℕ) (now : Store C)
     → IsStore store → AllByRecursion (λ s. s.part ≡ None) sessions → IsTurnState zero_cell cells (at_entry store sessions) turns now
     → (events more : List Event) × ((after_turns zero_cell cells (at_entry store sessions) turns).events ≡ events ++ more) × AreOneByOne zero_cell cells store events now
 
--- And whatever the first of the groups of the turns make of the store at entry is among them: since the groups that were there before
--- stay, an image that a crash leaves stands for one of these.
+-- And whatever the first of the groups of the turns make of the store at entry is among them: since
+-- the groups that were there before stay, an image that a crash leaves stands for one of these.
 abbrev pub FrontGroupsAreStates : Type 0 → Type 0
 FrontGroupsAreStates C = (zero_cell : C) (cells : Item → List C) (put : Putting C) (gate : ℕ) (store : Store C) (sessions : List (Session C)) (turns : List ℕ)
     (groups more : List Group) (now : Store C) → PutsCells put cells → IsStore store → AllByRecursion (λ s. s.part ≡ None) sessions
     → turn_groups (after_turns zero_cell cells (at_entry store sessions) turns).events ≡ groups ++ more
     → made_all zero_cell put gate store groups ≡ Some now → IsTurnState zero_cell cells (at_entry store sessions) turns now
 
--- A state of turns with at least so many parts complete that were not there before: what stands after an answer, where so many whole
--- lines were printed.
+-- A state of turns with at least so many parts complete that were not there before: what stands
+-- after an answer, where so many whole lines were printed.
 pub record IsStateWith {C : Type 0} (least : ℕ) (zero_cell : C) (cells : Item → List C) (w : Turns C) (turns : List ℕ) (now : Store C) : Type 0 where
   pub state : IsTurnState zero_cell cells w turns now
   pub events : List Event
@@ -189,7 +196,8 @@ pub record IsStateWith {C : Type 0} (least : ℕ) (zero_cell : C) (cells : Item 
   pub made : AreOneByOne zero_cell cells w.store events now
   pub enough : least ≤ length (completed_parts events)
 
--- Whatever was done first, there is a state that it made, with as many parts complete as lines were due until then.
+-- Whatever was done first, there is a state that it made, with as many parts complete as lines were
+-- due until then.
 abbrev pub LinesAreComplete : Type 0 → Type 0
 LinesAreComplete C = (zero_cell : C) (cells : Item → List C) (store : Store C) (sessions : List (Session C)) (turns : List ℕ) (events more : List Event)
     → IsStore store → AllByRecursion (λ s. s.part ≡ None) sessions
@@ -198,14 +206,15 @@ LinesAreComplete C = (zero_cell : C) (cells : Item → List C) (store : Store C)
 
 -- ---- groups are lawful
 
--- Of files of bytes, what is written are groups that an image may have: heads that version 1 can say, and bodies of edits that the
--- version of their head can say.
+-- Of files of bytes, what is written are groups that an image may have: heads that version 1 can
+-- say, and bodies of edits that the version of their head can say.
 abbrev pub GroupsAreLawful : Type 0
 GroupsAreLawful = (format : ℕ) (store : Store ℕ) (schedule : List ℕ) (files : List (List ℕ)) (guards : List Guard) (shares : List ℕ)
     → IsStore store → AllByRecursion IsBytes files
     → AllByRecursion (IsGroup format) (turn_groups (turns_of store schedule files guards shares).events)
 
--- Behind the groups that make the store at entry they make the store that the turns leave: an image with these groups stands for it.
+-- Behind the groups that make the store at entry they make the store that the turns leave: an image
+-- with these groups stands for it.
 abbrev pub GroupsStand : Type 0
 GroupsStand = (format : ℕ) (old : List Group) (store : Store ℕ) (schedule : List ℕ) (files : List (List ℕ)) (guards : List Guard) (shares : List ℕ)
     → IsStore store → AllByRecursion IsBytes files → Makes 0 as_bytes format old store

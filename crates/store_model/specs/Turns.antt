@@ -1,4 +1,5 @@
--- Sessions that receive into one store in turns: each turn is one command of one session. This program's own.
+-- Sessions that receive into one store in turns: each turn is one command of one session. This
+-- program's own.
 use Rattle.std.specs.Prelude.{◌≡◌, ℕ, zero, suc, ◌+◌, ◌-◌, Bool, true, false, not, ◌&&◌, ◌||◌, List, [], ◌∷◌, ◌++◌, length, map, take, drop, replicate, Option, None, Some, nat_lt, nat_le, is_some, is_none, if◌then◌else◌}
 use Rattle.std.specs.List.{slice_get, flat_map, filter, list_all}
 use Rattle.std.specs.Option.{option_map}
@@ -27,7 +28,8 @@ pub record Receiving (C : Type 0) : Type 0 where
   pub taken : Taken
   pub part : Part C
 
--- A session: the items that it has not read yet, how their reading ends, its guards, its current part, and whether it is over.
+-- A session: the items that it has not read yet, how their reading ends, its guards, its current
+-- part, and whether it is over.
 pub record Session (C : Type 0) : Type 0 where
   pub items : List Item
   pub end : Ending
@@ -42,7 +44,8 @@ pub data Event : Type 0 where
 
 -- ---- one turn of one session
 
--- What a turn leaves: the store, the session, the verdict if it is refused now, and what was done to the store.
+-- What a turn leaves: the store, the session, the verdict if it is refused now, and what was done
+-- to the store.
 pub record Turn (C : Type 0) : Type 0 where
   pub store : Store C
   pub session : Session C
@@ -53,7 +56,8 @@ pub record Turn (C : Type 0) : Type 0 where
 abbrev pub part_of : {C : Type 0} → Option (Receiving C) → Option (Part C)
 part_of part = option_map (λ r. r.part) part
 
--- The items of the current part after one that was taken: a head stands alone, an edit stands behind those before it.
+-- The items of the current part after one that was taken: a head stands alone, an edit stands
+-- behind those before it.
 abbrev pub taken_after : {C : Type 0} → Item → Option (Receiving C) → Taken
 taken_after item None = record { head = item; edits = [] }
 taken_after item (Some r) = if is_some (head_of item.command) then record { head = item; edits = [] } else record { head = r.taken.head; edits = r.taken.edits ++ item ∷ [] }
@@ -87,8 +91,8 @@ turned s item items after = record {
   events = completions item.command s.part ++ beginnings item after.refusal;
 }
 
--- A turn reads the next item. At the end of what is read the session is over, with the fault if there is one; an item that a guard
--- refuses changes nothing; else it does its step.
+-- A turn reads the next item. At the end of what is read the session is over, with the fault if
+-- there is one; an item that a guard refuses changes nothing; else it does its step.
 abbrev pub next_turn : {C : Type 0} → C → (Item → List C) → Store C → Session C → List Item → Turn C
 next_turn zero_cell cells store s [] = record { store = store; session = record s { is_over = true }; refused = fault_of s.end; events = [] }
 next_turn zero_cell cells store s (item ∷ items) = elim (guarded s.guards item.command) [
@@ -107,7 +111,8 @@ session_turn zero_cell cells store s = if s.is_over then record { store = store;
 
 -- ---- turns of all sessions
 
--- The store that all receive into, the sessions, the verdict of the session that was refused first, and what was done.
+-- The store that all receive into, the sessions, the verdict of the session that was refused first,
+-- and what was done.
 pub record Turns (C : Type 0) : Type 0 where
   pub store : Store C
   pub sessions : List (Session C)
@@ -139,7 +144,8 @@ new_session reading guards = record { items = reading.items; end = reading.end; 
 abbrev pub at_entry : {C : Type 0} → Store C → List (Session C) → Turns C
 at_entry store sessions = record { store = store; sessions = sessions; refused = None; events = [] }
 
--- Each session to its end, the first one, which has the given number, first: one turn for each item, and one for the end.
+-- Each session to its end, the first one, which has the given number, first: one turn for each
+-- item, and one for the end.
 unfoldable pub to_the_end : {C : Type 0} → ℕ → List (Session C) → List ℕ
 to_the_end n [] = []
 to_the_end n (s ∷ sessions) = replicate (suc (length s.items)) n ++ to_the_end (n + 1) sessions
@@ -148,7 +154,8 @@ to_the_end n (s ∷ sessions) = replicate (suc (length s.items)) n ++ to_the_end
 unfoldable pub interleaved : {C : Type 0} → C → (Item → List C) → Store C → List ℕ → List (Session C) → Turns C
 interleaved zero_cell cells store schedule sessions = after_turns zero_cell cells (at_entry store sessions) (schedule ++ to_the_end 0 sessions)
 
--- The sessions of files, the first of which has the given number; each has as many of the guards as its share says, in their order.
+-- The sessions of files, the first of which has the given number; each has as many of the guards as
+-- its share says, in their order.
 unfoldable pub sessions_from : ℕ → List (List ℕ) → List Guard → List ℕ → List (Session ℕ)
 sessions_from n [] guards shares = []
 sessions_from n (file ∷ files) guards [] = new_session (reads n file) [] ∷ sessions_from (n + 1) files guards []
@@ -165,8 +172,8 @@ is_turn files letter = nat_le 48 letter && nat_lt letter (48 + files) && nat_le 
 unfoldable pub schedule_of : ℕ → List ℕ → Option (List ℕ)
 schedule_of files word = if nat_le 1 (length word) && list_all (is_turn files) word then Some (map (λ letter. letter - 48) word) else None
 
--- Between the completion of a part and the head that completed it: the store where the next item, which no guard refuses, is a head or
--- END, and the part before it is complete.
+-- Between the completion of a part and the head that completed it: the store where the next item,
+-- which no guard refuses, is a head or END, and the part before it is complete.
 abbrev pub halfway_of : {C : Type 0} → Store C → Session C → List Item → Store C
 halfway_of store s [] = store
 halfway_of store s (item ∷ items) =
@@ -201,7 +208,8 @@ lines_of events = flat_map part_line (completed_parts events)
 abbrev pub part_uuid : Taken → List ℕ
 part_uuid part = elim (head_of part.head.command) [ None ↦ [] | Some h ↦ h.key.uuid ]
 
--- The groups that are written: a Mark for each part that began, and a Body for each that is complete, in the order of turns.
+-- The groups that are written: a Mark for each part that began, and a Body for each that is
+-- complete, in the order of turns.
 abbrev pub group_of_event : Event → Group
 group_of_event (Begins head) = mark_of head.command
 group_of_event (Completes part) = body_of (record { uuid = part_uuid part; version = part.head.version; commands = map (λ item. item.command) part.edits })

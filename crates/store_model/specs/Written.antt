@@ -1,5 +1,5 @@
--- The groups that receiving items into a store puts behind those that are there: one Mark for each part that begins, and one Body for each
--- part that is complete. This program's own.
+-- The groups that receiving items into a store puts behind those that are there: one Mark for each
+-- part that begins, and one Body for each part that is complete. This program's own.
 use Rattle.std.specs.Prelude.{◌≡◌, ℕ, true, List, [], ◌∷◌, ◌++◌, Option, None, Some, if◌then◌else◌}
 use Rattle.std.specs.List.{AllByRecursion}
 use Rattle.std.specs.Option.{option_map}
@@ -72,14 +72,16 @@ abbrev pub WrittenIsReceived : Type 0
 WrittenIsReceived = (gate : ℕ) (store : Store ℕ) (guards : List Guard) (items : List Item)
     → made_all 0 as_bytes gate store (groups_of store guards items) ≡ Some (received 0 byte_cells store guards items).state.state.store
 
--- The first of them, however many, make a state on the way, with all parts complete that are complete in it.
+-- The first of them, however many, make a state on the way, with all parts complete that are
+-- complete in it.
 abbrev pub FirstGroupsAreStates : Type 0
 FirstGroupsAreStates = (gate : ℕ) (store : Store ℕ) (guards : List Guard) (items : List Item) (first more : List Group)
     → groups_of store guards items ≡ first ++ more
     → (now : Store ℕ) × (made_all 0 as_bytes gate store first ≡ Some now)
     × IsBetween (complete_behind store now) store (received 0 byte_cells store guards items).state.state.store now
 
--- Those of files of bytes, with names that an attribute has room for, can stand in an image of either format.
+-- Those of files of bytes, with names that an attribute has room for, can stand in an image of
+-- either format.
 abbrev pub WrittenIsLawful : Type 0
 WrittenIsLawful = (format : ℕ) (store : Store ℕ) (guards : List Guard) (files : NamedFiles) → AreGiven files
     → AllByRecursion (IsGroup format) (groups_of store guards (read_of files).reading.items)

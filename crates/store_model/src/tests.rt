@@ -1,6 +1,7 @@
 //! The laws for any type of cell, at one.
 use crate::{
-    crashes_leave_turns, groups_make_one_store, receiving_passes_states, turns_have_an_order,
+    crashes_leave_turns, groups_make_one_store, parts_in_turn_have_their_entries,
+    receiving_passes_states, turns_have_an_order,
 };
 
 #[test]
@@ -9,4 +10,5 @@ fn laws_hold_at_a_type() {
     receiving_passes_states::<u8>();
     turns_have_an_order::<u8>();
     crashes_leave_turns::<u8>();
+    parts_in_turn_have_their_entries::<u8>();
 }

@@ -13,8 +13,8 @@ use Rattle.group_log.specs.declared.stops.LogStop.TheVariants.{DiskFault, NotSto
 use Rattle.store_scrub.specs.declared.stops.ScrubStop.{ScrubStop}
 use Rattle.store_scrub.specs.declared.stops.ScrubStop.TheVariants.{Log, Damaged}
 
--- Why a scrub may stop, whether or not the disk tells: the disk failed, for which there is this cause, or the bytes are no store, or
--- two checksums differ.
+-- Why a scrub may stop, whether or not the disk tells: the disk failed, for which there is this
+-- cause, or the bytes are no store, or two checksums differ.
 abbrev pub IsLogStop : Type 0 → LogStop → Type 0
 IsLogStop cause DiskFault = cause
 IsLogStop cause (NotStore group) = Unit {0}
@@ -52,8 +52,8 @@ abbrev pub IsBodyStop : ℕ → List ℕ → ℕ → ScrubStop → Type 0
 IsBodyStop format body number (Log why) = IsLogBodyStop format body number why
 IsBodyStop format body number (Damaged group stored computed) = (group ≡ number) × IsDamaged body stored computed
 
--- Why a comparison of a checksum with these four bytes stops: the disk failed, or they are not this checksum. That they differ is said
--- by `IsStop`.
+-- Why a comparison of a checksum with these four bytes stops: the disk failed, or they are not this
+-- checksum. That they differ is said by `IsStop`.
 abbrev pub IsOther : ℕ → List ℕ → ℕ → ScrubStop → Type 0
 IsOther number seal sum (Log why) = IsFault (Unit {0}) why
 IsOther number seal sum (Damaged group stored computed) = (group ≡ number) × (stored ≡ from_le_bytes w32 seal) × (computed ≡ sum)

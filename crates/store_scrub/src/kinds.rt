@@ -14,8 +14,8 @@ pub enum GroupKind {
     Drop,
 }
 
-/// What the first byte of a group says in a journal of a format: the kind of the group, and whether it ends with a
-/// checksum. `None` exactly where the format has no such kind. Takes no memory.
+/// What the first byte of a group says in a journal of a format: the kind of the group, and whether
+/// it ends with a checksum. `None` exactly where the format has no such kind. Takes no memory.
 pub fn kind_of(format: u32, first: u8) -> Option<(GroupKind, bool)>
     ensures some { IfSome result (λ found. Names format first found.0 found.1) }
     ensures none { IfNone result (IsKind format first → ⊥) }

@@ -1,4 +1,5 @@
-//! What scrub finds in a journal: the kinds and the checksums of its groups, and nothing of what they say.
+//! What scrub finds in a journal: the kinds and the checksums of its groups, and nothing of what
+//! they say.
 #![tactic(auto)]
 
 mod kinds;

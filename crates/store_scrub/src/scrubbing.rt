@@ -23,10 +23,11 @@ const PIECE: usize = 16384;
 // The checksum at the end of a group.
 const CHECKSUM: u64 = 4;
 
-/// Goes through all groups of a journal, and looks at their kinds and checksums, and not at what they say. It stops at
-/// the first group at fault: `Damaged` where it has another checksum, and `NotStore` where it is none, cut short or of no
-/// kind; the header counts as group 0. Besides, of `Log` only `DiskFault`. It reads each byte once, in pieces of 16 KiB
-/// on the stack, takes no memory and changes no byte.
+/// Goes through all groups of a journal, and looks at their kinds and checksums, and not at what
+/// they say. It stops at the first group at fault: `Damaged` where it has another checksum, and
+/// `NotStore` where it is none, cut short or of no kind; the header counts as group 0. Besides, of
+/// `Log` only `DiskFault`. It reads each byte once, in pieces of 16 KiB on the stack, takes no
+/// memory and changes no byte.
 pub fn scrub<D: Disk>(disk: &mut D) -> Result<Scrub, ScrubStop>
     ensures scrubbed { D.tells → IfOk result
         (λ found. IsScrubbed (D.seen disk.old) found.groups found.unsealed) }
@@ -110,7 +111,8 @@ fn scrub_group<D: Disk>(
     Ok(true)
 }
 
-// How many bytes of a group of some bytes are read at first: the first one, and none of its checksum.
+// How many bytes of a group of some bytes are read at first: the first one, and none of its
+// checksum.
 fn first_piece(len: u64) -> usize
     ensures least { 1 ≤ result }
     ensures most { result ≤ 16384 }
@@ -128,7 +130,8 @@ fn none_at(group: GroupPlace) -> ScrubStop
     })
 }
 
-// What stands in front of the checksum of a group and was not read: the bytes between two places, and the checksum of those before.
+// What stands in front of the checksum of a group and was not read: the bytes between two places,
+// and the checksum of those before.
 #[derive(Debug, Clone, Copy)]
 struct Rest {
     sum: u32,
@@ -136,7 +139,8 @@ struct Rest {
     to: u64,
 }
 
-// Goes on with a checksum, and compares it with the one that stands behind the bytes between two places.
+// Goes on with a checksum, and compares it with the one that stands behind the bytes between two
+// places.
 fn compare<D: Disk>(
     log: &Log,
     disk: &mut D,

@@ -7,9 +7,9 @@ use Rattle.store_model.specs.Stored.{Group}
 use Rattle.store_model.proofs.OneStore.{never_both}
 use Rattle.group_log.specs.Stopping.{IsFault}
 use Rattle.group_log.specs.declared.stops.LogStop.TheVariants.{DiskFault, NotStore, LogFull, StoreThere}
-use Rattle.store_groups.specs.Stopping.{IfLog}
-use Rattle.store_groups.specs.declared.stops.StoreStop.{StoreStop}
-use Rattle.store_groups.specs.declared.stops.StoreStop.TheVariants as stop
+use Rattle.group_replay.specs.Stopping.{IfLog}
+use Rattle.group_replay.specs.declared.stops.StoreStop.{StoreStop}
+use Rattle.group_replay.specs.declared.stops.StoreStop.TheVariants as stop
 use Rattle.store_journal.specs.Shown.{StoreState}
 use Rattle.store_journal.specs.Holding.{Holds}
 use Rattle.store_journal.specs.Standing.{with_bytes}

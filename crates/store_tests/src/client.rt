@@ -7,7 +7,7 @@ ghost use Rattle.store_model.specs.Stored.{Group, is_edit};
 ghost use Rattle.send_commands.specs.Meaning.{meaning_of};
 ghost use Rattle.sx_base.specs.Causes.{Rose};
 ghost use Rattle.group_log.specs.Stopping.{IsFault};
-ghost use Rattle.store_groups.specs.Stopping.{IfLog};
+ghost use Rattle.group_replay.specs.Stopping.{IfLog};
 ghost use Rattle.store_journal.specs.Shown.{IsIdle, IsOpen};
 ghost use Rattle.store_journal.specs.Reading.{HasSize};
 ghost use Rattle.store_journal.specs.Holding.{Holds};
@@ -37,7 +37,8 @@ pub(crate) struct PartFrames<'a> {
     pub(crate) edits: &'a [Frame<'a>],
 }
 
-/// The store that a disk has, opened again. It has the subvolumes that it had, and nothing is at fault.
+/// The store that a disk has, opened again. It has the subvolumes that it had, and nothing is at
+/// fault.
 pub(crate) fn open_again<D: Disk>(
     disk: &mut D,
     alloc: Global,

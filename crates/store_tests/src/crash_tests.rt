@@ -1,4 +1,5 @@
-// What no clause says: what crashes and faults leave of parts that are received and of a name that is dropped.
+// What no clause says: what crashes and faults leave of parts that are received and of a name that
+// is dropped.
 use crate::same::same;
 use crate::streams::{NEW, OLD, key, receive_a, receive_b};
 use disk_model::{FlakyDisk, FuseDisk, MemDisk};
@@ -88,7 +89,8 @@ fn a_crash_leaves_a_store(rt: HostRuntime) -> Result<(), Fail> {
     crash_at_each_call(&rt, alloc, OLD)
 }
 
-// Makes the changes with each call alone that fails, and opens the store again on the disk that goes on.
+// Makes the changes with each call alone that fails, and opens the store again on the disk that
+// goes on.
 fn fault_at_each_call(rt: &impl Abort, alloc: Global, image: &[u8]) -> Result<(), Fail> {
     for call in 1..MOST {
         let mut failing = Vec::new(alloc);

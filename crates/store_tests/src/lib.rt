@@ -1,4 +1,5 @@
-//! Tests of the calls of `store_journal` and `store_scrub`, and callers of the store that they run. Nothing stands here but tests.
+//! Tests of the calls of `store_journal` and `store_scrub`, and callers of the store that they run.
+//! Nothing stands here but tests.
 #![tactic(auto)]
 
 #[cfg(test)]

@@ -7,7 +7,8 @@ use std::test::Fail;
 use store_journal::Store;
 use sx_base::Disk;
 
-// Whether making a store is answered by a store of 21 bytes that is there, or by a fault of the disk.
+// Whether making a store is answered by a store of 21 bytes that is there, or by a fault of the
+// disk.
 fn is_there(made: Result<(), LogStop>) -> bool {
     matches!(made, Err(LogStop::StoreThere { size: 21 }))
 }

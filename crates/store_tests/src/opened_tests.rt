@@ -149,7 +149,8 @@ fn the_first_group_at_fault_is_named(rt: HostRuntime) -> Result<(), Fail> {
     Ok(())
 }
 
-// Where the gates stand of a store that has received `a` and `b` and dropped `a`, and how many entries the groups before each make.
+// Where the gates stand of a store that has received `a` and `b` and dropped `a`, and how many
+// entries the groups before each make.
 const GATES: &[(usize, u64)] = &[(20, 0), (81, 1), (221, 1), (314, 2), (375, 2), (390, 1)];
 
 // The bytes of such a store, made of one with these bytes.
@@ -189,8 +190,9 @@ fn a_store_that_is_cut_is_none(rt: HostRuntime) -> Result<(), Fail> {
     cuts_are_none(&rt, rt.alloc(), OLD)
 }
 
-// What a byte that has changed makes of such a store: a gate that is closed then ends it, an open last one wants a group behind it,
-// the limit says nothing of the groups, and else the group is at fault in which the byte stands.
+// What a byte that has changed makes of such a store: a gate that is closed then ends it, an open
+// last one wants a group behind it, the limit says nothing of the groups, and else the group is at
+// fault in which the byte stands.
 fn verdict_at(place: usize, byte: u8) -> Result<u64, u64> {
     for &(gate, entries) in GATES {
         if gate == place && byte != 1 {

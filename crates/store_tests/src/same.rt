@@ -1,5 +1,5 @@
-// What these tests expect of a value. An assertion has many locals, and each step of a function is proved beside all of them: so it
-// stands here, once.
+// What these tests expect of a value. An assertion has many locals, and each step of a function is
+// proved beside all of them: so it stands here, once.
 use std::fmt::Debug;
 use std::process::Abort;
 

@@ -1,4 +1,5 @@
-// What no clause says: that calls succeed, and images made by hand with checksums from another program.
+// What no clause says: that calls succeed, and images made by hand with checksums from another
+// program.
 use crate::same::same;
 use disk_model::{FlakyDisk, FuseDisk, MemDisk};
 use group_log::LogStop;
@@ -236,8 +237,8 @@ fn images_are_scrubbed(rt: HostRuntime) -> Result<(), Fail> {
     Ok(())
 }
 
-// The checksums of a byte 5 and as many letters `a` behind it that all are so many bytes: around one piece that is read at once, two
-// pieces, and the four bytes of a checksum behind them.
+// The checksums of a byte 5 and as many letters `a` behind it that all are so many bytes: around
+// one piece that is read at once, two pieces, and the four bytes of a checksum behind them.
 const LENGTHS: &[(usize, u32)] = &[
     (16_383, 0xdade_0ad9),
     (16_384, 0x3816_f40c),
@@ -290,10 +291,12 @@ fn long_groups_are_summed(rt: HostRuntime) -> Result<(), Fail> {
 const TWO: &[u8] =
     b"sndstore\x01\0\0\0\0\0\0\0\0\x01\0\0\x01\x04\0\0\0\0\0\0\0\x01abc\x01\x09\0\0\0\0\0\0\0\x05defg\x97e\x14\x9e\0";
 
-// A scrub asks the disk four times for the header, once for each gate, once for each length, and twice for each short body.
+// A scrub asks the disk four times for the header, once for each gate, once for each length, and
+// twice for each short body.
 const CALLS: u64 = 4 + 3 + 2 + 2 * 2;
 
-// What a scrub comes to on a disk that stops after so many calls, and on one of which the next call alone fails.
+// What a scrub comes to on a disk that stops after so many calls, and on one of which the next call
+// alone fails.
 fn scrubbed_failing(alloc: Global, calls: u64) -> Result<(Answer, Answer), Fail> {
     let mut fuse = FuseDisk::new(MemDisk::new(alloc, TWO)?, calls);
     let mut failing = Vec::new(alloc);

@@ -1,4 +1,5 @@
-// What no clause says: that images of 2^40 bytes and more are judged at once. They are files with a hole behind their first bytes.
+// What no clause says: that images of 2^40 bytes and more are judged at once. They are files with a
+// hole behind their first bytes.
 use crate::same::same;
 use crate::streams::{NEW, OLD, judged, with_a};
 use file_disk::FileDisk;
@@ -22,7 +23,8 @@ fn judged_sparse(rt: &HostRuntime, bytes: &[u8], len: u64) -> Result<Result<u64,
     Ok(found)
 }
 
-// A store's first bytes, and behind them an open gate, the length of a group, and the first bytes of its body.
+// A store's first bytes, and behind them an open gate, the length of a group, and the first bytes
+// of its body.
 fn with_group(rt: &HostRuntime, start: &[u8], len: u64, body: &[u8]) -> Result<Vec<u8>, Fail> {
     let mut bytes = start.to_vec(rt.alloc())?;
     bytes.push(1)?;
@@ -46,7 +48,8 @@ fn a_store_may_have_a_hole_behind_it(rt: HostRuntime) -> Result<(), Fail> {
 // The first bytes of the edits of `a` in version 1, behind the kind of their group.
 const EDITS: &[u8; 17] = b"AAAAAAAAAAAAAAAA\x01";
 
-// Whether a group of this kind is at fault behind a store's first bytes with the groups before it, however long it says that it is.
+// Whether a group of this kind is at fault behind a store's first bytes with the groups before it,
+// however long it says that it is.
 fn is_at_fault(rt: &HostRuntime, start: &[u8], group: u64, kind: u8) -> Result<bool, Fail> {
     let mut body = [kind; 18];
     body[1..].copy_from_slice(EDITS);

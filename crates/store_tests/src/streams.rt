@@ -82,7 +82,8 @@ pub(crate) fn judged<D: Disk>(alloc: Global, disk: &mut D) -> Result<u64, u64> {
     }
 }
 
-/// Receives the subvolume `a`: a file x with "hi" at 3 and, after a hole, "end" at 4096, 5000 bytes long.
+/// Receives the subvolume `a`: a file x with "hi" at 3 and, after a hole, "end" at 4096, 5000 bytes
+/// long.
 pub(crate) fn receive_a<D: Disk>(
     rt: &impl Abort,
     store: &mut Store,

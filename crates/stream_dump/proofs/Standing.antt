@@ -1,4 +1,5 @@
--- How far a file was written: what was written, what is gathered, and the bytes of what is left to read.
+-- How far a file was written: what was written, what is gathered, and the bytes of what is left to
+-- read.
 use Rattle.std.specs.Prelude.{◌≡◌, ℕ, ◌≤◌, Bool, true, List, [], ◌∷◌, ◌++◌, length, take, Option, None, Some, Ok, Err}
 use Rattle.std.specs.Io.KnownBytes.{Appends}
 use Rattle.std.proofs.Common.{refl, sym, ap, subst, ◌∙◌, append_assoc, append-nil, arith, inl, inr}
@@ -33,7 +34,8 @@ use Rattle.stream_dump.specs.Steps.{StopsWriting, last_bytes}
 use Rattle.stream_dump.proofs.Unpacked.{ItemAdded, ItemEnds, EndsWith}
 use Rattle.stream_dump.proofs.Lengths.{due_whole, due_fault, due_long}
 
--- What was written and what is gathered are the first bytes, the bytes of what is left follow, and the reading ends as what is left.
+-- What was written and what is gathered are the first bytes, the bytes of what is left follow, and
+-- the reading ends as what is left.
 pub record Stands (piece : Bool → Item → List ℕ) (reader : Reader) (gathered : Gathered) (taken_old taken_now : Option (List ℕ)) (bytes : List ℕ) : Type 0 where
   pub sent : List ℕ
   pub appends : Appends taken_old taken_now sent

@@ -29,7 +29,8 @@ abbrev pub Sends : (old new : Gathered) (before now : Output) → Result (Unit {
 Sends old new before now (Ok done) = Appends before.taken now.taken old.bytes × (new ≡ record { bytes = []; begins = old.begins })
 Sends old new before now (Err outcome) = (outcome ≡ ended.OutputFault) × Rose before.faults now.faults × AppendsPart before.taken now.taken old.bytes
 
--- The bytes of an item were added, and of all that was gathered then some is written, and the rest is gathered now.
+-- The bytes of an item were added, and of all that was gathered then some is written, and the rest
+-- is gathered now.
 pub record ItemAdded (all new : Gathered) (taken_old taken_now : Option (List ℕ)) : Type 0 where
   pub sent : List ℕ
   pub appends : Appends taken_old taken_now sent
@@ -47,7 +48,8 @@ StopsWriting before now (ended.InputTooLong file) = ⊥
 StopsWriting before now (ended.TooMuch sum) = ⊥
 StopsWriting before now (ended.InputChanged file place) = ⊥
 
--- What is gathered with an item is gathered or written, or a front part of it was written where writing ends there.
+-- What is gathered with an item is gathered or written, or a front part of it was written where
+-- writing ends there.
 abbrev pub ItemEnds : (all new : Gathered) (before now : Output) → Result (Unit {0}) Outcome → Type 0
 ItemEnds all new before now (Ok done) = ItemAdded all new before.taken now.taken
 ItemEnds all new before now (Err outcome) = StopsWriting before.faults now.faults outcome × Wrote before.taken now.taken (IsFrontOf all.bytes)

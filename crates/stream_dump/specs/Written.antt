@@ -1,5 +1,5 @@
--- What is written of a file, command by command, in a form that is given: the bytes of a command that begins a stream, and of one
--- that does not.
+-- What is written of a file, command by command, in a form that is given: the bytes of a command
+-- that begins a stream, and of one that does not.
 use Rattle.std.specs.Prelude.{◌≡◌, ℕ, Bool, true, List, [], ◌∷◌, ◌++◌, if◌then◌else◌}
 use Rattle.send_model.specs.Reading.{Item, reads}
 use Rattle.send_model.specs.Counts.{is_end}
@@ -25,8 +25,8 @@ StandsAs all (RefusedAt verdict) written = written ≡ all
 StandsAs all (TooLong file) written = IsFrontOf all written
 StandsAs all (TooMuch sum) written = IsFrontOf all written
 
--- The answer that is due to the file, and its bytes: all of them where the file decides, and a front part of them where something
--- else ends the call.
+-- The answer that is due to the file, and its bytes: all of them where the file decides, and a
+-- front part of them where something else ends the call.
 abbrev pub WritesFile : (Bool → Item → List ℕ) → List ℕ → Outcome → List ℕ → Type 0
 WritesFile piece bytes outcome written =
     EndsAs (file_due bytes) (StandsAs (written_of piece bytes)) (IsFrontOf (written_of piece bytes)) (IsFrontOf (written_of piece bytes)) outcome written

@@ -1,20 +1,25 @@
 // A command's name and values as text.
 ghost use Rattle.std.specs.Prelude.{◌≡◌, ◌++◌, OnOk, length, map};
 ghost use Rattle.send_model.specs.Command.{row};
-ghost use Rattle.send_model.specs.Lines.{values_text};
+ghost use Rattle.send_model.specs.Lines.{values_with};
 ghost use Rattle.send_commands.specs.Meaning.{meaning_of, kind_meant};
-ghost use Rattle.stream_dump.specs.Values.{field_of, command_text};
+ghost use Rattle.stream_dump.specs.Values.{field_of, form_of, command_text};
 ghost use Rattle.sx_base.specs.Bytes.{IsFront};
 
-use crate::values::{Value, push_values};
+use crate::values::{Contents, Value, push_values};
 use send_commands::{Command, Kind};
 use std::alloc::AllocError;
 use sx_base::Blob;
 
 /// Appends a command's name and the values of its wanted attributes.
 #[tactic(auto, unfolding(crate::specs::Values::command_text, send_model::specs::Command::row))]
-pub fn push_command(command: &Command<'_>, to: &mut Blob) -> Result<(), AllocError>
-    ensures pushed { OnOk result (to.new ≡ to.old ++ command_text (meaning_of command.now)) }
+pub fn push_command(
+    command: &Command<'_>,
+    contents: Contents,
+    to: &mut Blob,
+) -> Result<(), AllocError>
+    ensures pushed { OnOk result
+        (to.new ≡ to.old ++ command_text (form_of contents) (meaning_of command.now)) }
     ensures kept { IsFront to.old to.new }
 {
     match command {
@@ -29,6 +34,7 @@ pub fn push_command(command: &Command<'_>, to: &mut Blob) -> Result<(), AllocErr
                 Value::Number(*ctransid),
                 Value::Bytes(path),
             ],
+            contents,
             to,
         ),
         Command::Snapshot {
@@ -46,10 +52,11 @@ pub fn push_command(command: &Command<'_>, to: &mut Blob) -> Result<(), AllocErr
                 Value::Identifier(*clone_uuid),
                 Value::Number(*clone_ctransid),
             ],
+            contents,
             to,
         ),
-        Command::MkFile { path } => put(Kind::MkFile, &[Value::Bytes(path)], to),
-        Command::MkDir { path } => put(Kind::MkDir, &[Value::Bytes(path)], to),
+        Command::MkFile { path } => put(Kind::MkFile, &[Value::Bytes(path)], contents, to),
+        Command::MkDir { path } => put(Kind::MkDir, &[Value::Bytes(path)], contents, to),
         Command::MkNod { mode, rdev, path } => put(
             Kind::MkNod,
             &[
@@ -57,35 +64,41 @@ pub fn push_command(command: &Command<'_>, to: &mut Blob) -> Result<(), AllocErr
                 Value::Number(*rdev),
                 Value::Bytes(path),
             ],
+            contents,
             to,
         ),
-        Command::MkFifo { path } => put(Kind::MkFifo, &[Value::Bytes(path)], to),
-        Command::MkSock { path } => put(Kind::MkSock, &[Value::Bytes(path)], to),
+        Command::MkFifo { path } => put(Kind::MkFifo, &[Value::Bytes(path)], contents, to),
+        Command::MkSock { path } => put(Kind::MkSock, &[Value::Bytes(path)], contents, to),
         Command::Symlink { path, path_link } => put(
             Kind::Symlink,
             &[Value::Bytes(path), Value::Bytes(path_link)],
+            contents,
             to,
         ),
         Command::Rename { path, path_to } => put(
             Kind::Rename,
             &[Value::Bytes(path), Value::Bytes(path_to)],
+            contents,
             to,
         ),
         Command::Link { path, path_link } => put(
             Kind::Link,
             &[Value::Bytes(path), Value::Bytes(path_link)],
+            contents,
             to,
         ),
-        Command::Unlink { path } => put(Kind::Unlink, &[Value::Bytes(path)], to),
-        Command::Rmdir { path } => put(Kind::Rmdir, &[Value::Bytes(path)], to),
+        Command::Unlink { path } => put(Kind::Unlink, &[Value::Bytes(path)], contents, to),
+        Command::Rmdir { path } => put(Kind::Rmdir, &[Value::Bytes(path)], contents, to),
         Command::SetXattr { name, value, path } => put(
             Kind::SetXattr,
             &[Value::Bytes(name), Value::Bytes(value), Value::Bytes(path)],
+            contents,
             to,
         ),
         Command::RemoveXattr { name, path } => put(
             Kind::RemoveXattr,
             &[Value::Bytes(name), Value::Bytes(path)],
+            contents,
             to,
         ),
         Command::Write {
@@ -99,6 +112,7 @@ pub fn push_command(command: &Command<'_>, to: &mut Blob) -> Result<(), AllocErr
                 Value::Number(*offset),
                 Value::Bytes(bytes),
             ],
+            contents,
             to,
         ),
         Command::Clone {
@@ -120,21 +134,25 @@ pub fn push_command(command: &Command<'_>, to: &mut Blob) -> Result<(), AllocErr
                 Value::Number(*clone_offset),
                 Value::Number(*clone_len),
             ],
+            contents,
             to,
         ),
         Command::Truncate { size, path } => put(
             Kind::Truncate,
             &[Value::Number(*size), Value::Bytes(path)],
+            contents,
             to,
         ),
         Command::Chmod { mode, path } => put(
             Kind::Chmod,
             &[Value::Number(*mode), Value::Bytes(path)],
+            contents,
             to,
         ),
         Command::Chown { uid, gid, path } => put(
             Kind::Chown,
             &[Value::Number(*uid), Value::Number(*gid), Value::Bytes(path)],
+            contents,
             to,
         ),
         Command::Utimes { mtime, atime, path } => put(
@@ -144,9 +162,10 @@ pub fn push_command(command: &Command<'_>, to: &mut Blob) -> Result<(), AllocErr
                 Value::Moment(*atime),
                 Value::Bytes(path),
             ],
+            contents,
             to,
         ),
-        Command::End => put(Kind::End, &[], to),
+        Command::End => put(Kind::End, &[], contents, to),
         Command::UpdateExtent { size, path, offset } => put(
             Kind::UpdateExtent,
             &[
@@ -154,6 +173,7 @@ pub fn push_command(command: &Command<'_>, to: &mut Blob) -> Result<(), AllocErr
                 Value::Bytes(path),
                 Value::Number(*offset),
             ],
+            contents,
             to,
         ),
         Command::Fallocate {
@@ -169,31 +189,38 @@ pub fn push_command(command: &Command<'_>, to: &mut Blob) -> Result<(), AllocErr
                 Value::Number(*offset),
                 Value::ShortNumber(*mode),
             ],
+            contents,
             to,
         ),
         Command::FileAttr { path, flags } => put(
             Kind::FileAttr,
             &[Value::Bytes(path), Value::Number(*flags)],
+            contents,
             to,
         ),
     }
 }
 
 // Appends the name of the command and these values.
-fn put(kind: Kind, values: &[Value<'_>], to: &mut Blob) -> Result<(), AllocError>
+fn put(
+    kind: Kind,
+    values: &[Value<'_>],
+    contents: Contents,
+    to: &mut Blob,
+) -> Result<(), AllocError>
     requires count { length values.now ≡ length (row (kind_meant kind)).wanted }
     ensures pushed { OnOk result
         (to.new ≡ to.old ++ (row (kind_meant kind)).name
-        ++ values_text (row (kind_meant kind)).wanted (map field_of values.now)) }
+        ++ values_with (form_of contents) (row (kind_meant kind)).wanted (map field_of values.now)) }
     ensures kept { IsFront to.old to.new }
 {
     to.push_all(command_name(kind))?;
-    push_values(kind, values, to)
+    push_values(kind, values, contents, to)
 }
 
-// The name of the command.
+/// The name of the command.
 #[tactic(auto, unfolding(send_model::specs::Command::row))]
-fn command_name(kind: Kind) -> &'static [u8]
+pub fn command_name(kind: Kind) -> &'static [u8]
     ensures name { result.now ≡ (row (kind_meant kind)).name }
 {
     match kind {

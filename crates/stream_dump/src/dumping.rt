@@ -10,9 +10,10 @@ use crate::lines::DumpLines;
 use std::alloc::Global;
 use sx_base::{Inputs, Outcome, Sink};
 
-/// Writes a line for each command of the file that can be read, and before the first of each stream one for the stream. The file
-/// is read once, in order. `Done` says that it is whole, and `Refused` gives its first fault; with both `out` got all these lines,
-/// and with every other outcome a front part of them. `InputTooLong` comes exactly where the file is too long.
+/// Writes a line for each command of the file that can be read, and before the first of each stream
+/// one for the stream. The file is read once, in order. `Done` says that it is whole, and `Refused`
+/// gives its first fault; with both `out` got all these lines, and with every other outcome a front
+/// part of them. `InputTooLong` comes exactly where the file is too long.
 #[tactic(auto, using(crate::proofs::Dumps::dumped))]
 pub fn dump<I: Inputs, O: Sink>(alloc: Global, inputs: &mut I, file: &str, out: &mut O) -> Outcome
     ensures same { I.told inputs.new ≡ I.told inputs.old }

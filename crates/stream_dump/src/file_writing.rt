@@ -21,9 +21,10 @@ use sx_base::{Inputs, Outcome, Sink, write_whole};
 /// How many bytes are gathered before they are written.
 pub const PIECE: usize = 65_536;
 
-/// Writes all commands of the file that can be read, in this form. The file is read once, in order. `Done` says that it is whole, and
-/// `Refused` gives its first fault; with both `out` got the bytes of all commands before, and with every other outcome a front part
-/// of them. `InputTooLong` comes exactly where the file is too long.
+/// Writes all commands of the file that can be read, in this form. The file is read once, in order.
+/// `Done` says that it is whole, and `Refused` gives its first fault; with both `out` got the bytes
+/// of all commands before, and with every other outcome a front part of them. `InputTooLong` comes
+/// exactly where the file is too long.
 pub fn write_file<F: ItemForm, I: Inputs, O: Sink>(
     alloc: Global,
     form: &mut F,
@@ -108,8 +109,8 @@ pub fn send<O: Sink>(gathered: &mut Gathered, out: &mut O) -> Result<(), Outcome
     Ok(())
 }
 
-/// The outcome of a call that ends here. What was gathered is written first, but not where an object of the outside failed or there
-/// is no memory.
+/// The outcome of a call that ends here. What was gathered is written first, but not where an
+/// object of the outside failed or there is no memory.
 pub fn finish<O: Sink>(gathered: &mut Gathered, out: &mut O, outcome: Outcome) -> Outcome
     ensures later { O.faults out.old ≤ O.faults out.new }
     ensures steady { SteadyIfDone (O.faults out.old) (O.faults out.new) result }

@@ -11,12 +11,13 @@ use cmd_reader::Item;
 use std::alloc::AllocError;
 use sx_base::Blob;
 
-/// A form in which the commands of a file are written. Its meaning is the bytes of each command, given whether it begins a stream.
+/// A form in which the commands of a file are written. Its meaning is the bytes of each command,
+/// given whether it begins a stream.
 pub trait ItemForm {
     ghost piece: { Bool → reading.Item → List ℕ };
 
-    /// Appends the bytes of a command that was read. Without memory the blob begins with the bytes that it had, and some of those of
-    /// the command may stand behind them.
+    /// Appends the bytes of a command that was read. Without memory the blob begins with the bytes
+    /// that it had, and some of those of the command may stand behind them.
     fn add(&mut self, begins: bool, item: &Item<'_>, to: &mut Blob) -> Result<(), AllocError>
         requires writable { IsWritable item.now.version (meaning_of item.now.command) }
         requires sayable { CanWrite item.now.version (meaning_of item.now.command) }

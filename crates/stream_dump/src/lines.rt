@@ -8,6 +8,7 @@ ghost use Rattle.sx_base.specs.Bytes.{IsFront};
 use crate::commands::push_command;
 use crate::item_form::ItemForm;
 use crate::numbers::push_decimal;
+use crate::values::Contents;
 use cmd_reader::Item;
 use std::alloc::AllocError;
 use sx_base::Blob;
@@ -27,7 +28,8 @@ impl ItemForm for DumpLines {
     }
 }
 
-fn push_stream_line(version: u32, to: &mut Blob) -> Result<(), AllocError>
+/// Appends the line of a stream of this version.
+pub fn push_stream_line(version: u32, to: &mut Blob) -> Result<(), AllocError>
     ensures added { OnOk result (to.new ≡ to.old ++ stream_line version) }
     ensures kept { IsFront to.old to.new }
 {
@@ -45,6 +47,6 @@ fn push_line(item: &Item<'_>, to: &mut Blob) -> Result<(), AllocError>
     to.push_all(b" ")?;
     push_decimal(item.offset, to)?;
     to.push_all(b" ")?;
-    push_command(&item.command, to)?;
+    push_command(&item.command, Contents::Count, to)?;
     to.push_all(b"\n")
 }

@@ -1,17 +1,26 @@
 // The values of a command, each with its name.
 ghost use Rattle.std.specs.Prelude.{◌≡◌, ◌++◌, OnOk, length, map};
 ghost use Rattle.send_model.specs.Command.{row};
-ghost use Rattle.send_model.specs.Lines.{value_text, values_text};
+ghost use Rattle.send_model.specs.Lines.{value_with, values_with};
 ghost use Rattle.send_commands.specs.Meaning.{kind_meant};
-ghost use Rattle.stream_dump.specs.Values.{field_of, name_of, one_value};
+ghost use Rattle.stream_dump.specs.Values.{field_of, form_of, name_of, one_value};
 ghost use Rattle.sx_base.specs.Bytes.{IsFront};
 
 use crate::numbers::{push_decimal, push_octal, push_time, push_uuid};
 use send_commands::{Kind, Time};
 use std::alloc::AllocError;
-use sx_base::{Blob, escape_into};
+use sx_base::{Blob, escape_into, hex_into};
 use tlv_frame::attribute_numbers::*;
 use uuid::Uuid;
+
+/// How the contents of a file or of an extended attribute are printed.
+#[derive(Debug, Clone, Copy)]
+pub enum Contents {
+    /// How many bytes they have.
+    Count,
+    /// Two lower hexadecimal digits for each byte.
+    Digits,
+}
 
 /// A value of a command.
 #[derive(Debug, Clone, Copy)]
@@ -28,33 +37,52 @@ pub enum Value<'a> {
     Bytes(&'a [u8]),
 }
 
-/// Appends the values of a command's wanted attributes in their order, each after a space, with its name.
-pub fn push_values(kind: Kind, values: &[Value<'_>], to: &mut Blob) -> Result<(), AllocError>
+/// Appends the values of a command's wanted attributes in their order, each after a space, with its
+/// name.
+pub fn push_values(
+    kind: Kind,
+    values: &[Value<'_>],
+    contents: Contents,
+    to: &mut Blob,
+) -> Result<(), AllocError>
     requires count { length values.now ≡ length (row (kind_meant kind)).wanted }
     ensures pushed { OnOk result
-        (to.new ≡ to.old ++ values_text (row (kind_meant kind)).wanted (map field_of values.now)) }
+        (to.new ≡ to.old
+        ++ values_with (form_of contents) (row (kind_meant kind)).wanted (map field_of values.now)) }
     ensures kept { IsFront to.old to.new }
 {
     let wanted = kind.wanted();
     for place in 0..values.len() {
-        push_value(wanted[place], &values[place], to)?;
+        push_value(wanted[place], &values[place], contents, to)?;
     }
     Ok(())
 }
 
 // Appends a value after a space, with its name.
-fn push_value(kind: u16, value: &Value<'_>, to: &mut Blob) -> Result<(), AllocError>
-    ensures pushed { OnOk result (to.new ≡ to.old ++ one_value kind (field_of value.now)) }
+fn push_value(
+    kind: u16,
+    value: &Value<'_>,
+    contents: Contents,
+    to: &mut Blob,
+) -> Result<(), AllocError>
+    ensures pushed { OnOk result
+        (to.new ≡ to.old ++ one_value (form_of contents) kind (field_of value.now)) }
     ensures kept { IsFront to.old to.new }
 {
     to.push_all(b" ")?;
     to.push_all(value_name(kind))?;
     to.push_all(b"=")?;
-    push_text(kind, value, to)
+    push_text(kind, value, contents, to)
 }
 
-fn push_text(kind: u16, value: &Value<'_>, to: &mut Blob) -> Result<(), AllocError>
-    ensures pushed { OnOk result (to.new ≡ to.old ++ value_text kind (field_of value.now)) }
+fn push_text(
+    kind: u16,
+    value: &Value<'_>,
+    contents: Contents,
+    to: &mut Blob,
+) -> Result<(), AllocError>
+    ensures pushed { OnOk result
+        (to.new ≡ to.old ++ value_with (form_of contents) kind (field_of value.now)) }
     ensures kept { IsFront to.old to.new }
 {
     match value {
@@ -70,7 +98,7 @@ fn push_text(kind: u16, value: &Value<'_>, to: &mut Blob) -> Result<(), AllocErr
         Value::Moment(time) => push_time(*time, to),
         Value::Bytes(bytes) => {
             if kind == XATTR_DATA || kind == DATA {
-                push_decimal(bytes.len() as u64, to)
+                push_contents(bytes, contents, to)
             } else {
                 escape_into(bytes, to)
             }
@@ -78,9 +106,19 @@ fn push_text(kind: u16, value: &Value<'_>, to: &mut Blob) -> Result<(), AllocErr
     }
 }
 
-// The name of the values of the attribute of this number, nothing where no command wants it.
+fn push_contents(bytes: &[u8], contents: Contents, to: &mut Blob) -> Result<(), AllocError>
+    ensures pushed { OnOk result (to.new ≡ to.old ++ form_of contents bytes.now) }
+    ensures kept { IsFront to.old to.new }
+{
+    match contents {
+        Contents::Count => push_decimal(bytes.len() as u64, to),
+        Contents::Digits => hex_into(bytes, to),
+    }
+}
+
+/// The name of the values of the attribute of this number, nothing where no command wants it.
 #[tactic(auto, unfolding(crate::specs::Values::name_of))]
-fn value_name(kind: u16) -> &'static [u8]
+pub fn value_name(kind: u16) -> &'static [u8]
     ensures name { result.now ≡ name_of kind }
 {
     match kind {

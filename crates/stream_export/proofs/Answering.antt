@@ -11,7 +11,7 @@ use Rattle.send_model.specs.Guards.{Watched, watched_step, refused_from, looked}
 use Rattle.send_model.specs.Cells.{recelled_state}
 use Rattle.send_model.specs.Headline.{IsFrontOf}
 use Rattle.send_model.specs.Due.{Due, RefusedAt, Limited, limited_from, stop_due, audit_due_of}
-use Rattle.send_model.specs.Renamed.{Names, renamed, renamed_limited}
+use Rattle.send_model.specs.Overridden.{Overrides, overridden, overridden_limited}
 use Rattle.send_model.specs.Exported.{Exporting, exporting, separated_by, exported_of, byte_step, AreSmallBy}
 use Rattle.send_model.specs.Receivable.{exported_from}
 use Rattle.send_model.specs.Words.{Export}
@@ -22,7 +22,7 @@ use Rattle.sx_base.specs.Calls.{IfAllTold, Wrote, Caused}
 use Rattle.sx_base.specs.declared.outcome.Outcome.{Outcome}
 use Rattle.sx_base.specs.declared.outcome.Outcome.TheVariants as ended
 use Rattle.sx_base.specs.Outside.{AppendsPart}
-use Rattle.part_names.specs.Naming.{EndsOf, sources_named}
+use Rattle.part_names.specs.Overriding.{EndsOf, sources_with}
 use Rattle.stream_dump.specs.declared.gathering.Gathered.{Gathered}
 use Rattle.stream_dump.specs.Steps.{last_bytes}
 use Rattle.stream_dump.proofs.Unpacked.{EndsWith}
@@ -88,9 +88,9 @@ due_is core store read same =
 -- ---- the end
 
 -- All that was gathered is written, or a front part of it.
-module _ {C : Type 0} (core : Store C) (store : Store ℕ) (same : HaveSameShape core store) (new_names : Names) (files : List (List ℕ)) (bytes : List ℕ) (taken_old taken_mid taken_now : Option (List ℕ)) (before now : ℕ) where
+module _ {C : Type 0} (core : Store C) (store : Store ℕ) (same : HaveSameShape core store) (overrides : Overrides) (files : List (List ℕ)) (bytes : List ℕ) (taken_old taken_mid taken_now : Option (List ℕ)) (before now : ℕ) where
   abbrev Read : Limited
-  Read = renamed_limited new_names (limited_from 1 files)
+  Read = overridden_limited overrides (limited_from 1 files)
 
   abbrev All : List ℕ
   All = written_from (start_over core) Read.items
@@ -120,7 +120,7 @@ module _ {C : Type 0} (core : Store C) (store : Store ℕ) (same : HaveSameShape
   is_all_front w is = is_front Exported w [] (sym is ∙ sym (append-nil w))
 
   abbrev Answered : Outcome → Type 0
-  Answered result = Wrote taken_old taken_now (λ written. EndsOf (Export 0 0) store (sources_named new_names files) result written)
+  Answered result = Wrote taken_old taken_now (λ written. EndsOf (Export 0 0) store (sources_with overrides files) result written)
 
   -- What was gathered is written, or the output failed in the middle.
   written : (outcome : Outcome) → Stops (start_over core) Read [] bytes taken_old taken_mid outcome → Appends taken_mid taken_now (last_bytes outcome bytes) → Answered outcome
@@ -147,7 +147,7 @@ module _ {C : Type 0} (core : Store C) (store : Store ℕ) (same : HaveSameShape
   stops_end outcome result stops (inl (is, appends)) = subst Answered (sym is) (written outcome stops appends)
   stops_end outcome result stops (inr (is, rose, part)) = subst Answered (sym is) (broken outcome stops part)
 
-  pub taken_end : (result : Outcome) → AllTaken new_names (start_over core) [] bytes taken_old taken_mid files → EndsWith bytes ended.Done taken_mid taken_now before now result → Answered result
+  pub taken_end : (result : Outcome) → AllTaken overrides (start_over core) [] bytes taken_old taken_mid files → EndsWith bytes ended.Done taken_mid taken_now before now result → Answered result
   taken_end result t (inl (is, appends)) =
       let (w, a, same_bytes) = all t.passes appends in
       subst Answered (sym is) (w, a, (sym (due_is core store Read same) ∙ t.done, same_bytes))
@@ -155,7 +155,7 @@ module _ {C : Type 0} (core : Store C) (store : Store ℕ) (same : HaveSameShape
 
   -- What stops before the end is not done.
   pub never_done : (outcome result : Outcome) → Stops (start_over core) Read [] bytes taken_old taken_mid outcome → EndsWith bytes outcome taken_mid taken_now before now result → result ≡ ended.Done
-      → AreSmallBy byte_step (start_of store) (renamed new_names (input files)).items
+      → AreSmallBy byte_step (start_of store) (overridden overrides (input files)).items
   never_done outcome result stops (inl (is, appends)) done = absurd (subst (Stops (start_over core) Read [] bytes taken_old taken_mid) (sym is ∙ done) stops)
   never_done outcome result stops (inr (is, rose, part)) done = absurd (apart (sym is ∙ done))
     where
@@ -177,38 +177,38 @@ from_start : {C : Type 0} (core : Store C) (start : Exporting Blank) (gathered :
 from_start core start gathered P s g p = subst (λ (x : Exporting Blank). P (record { now = x; begins = true }) []) s (subst (λ (x : Gathered). P (point_at start x) x.bytes) g p)
 
 -- All commands were taken.
-pub export_done : {C : Type 0} (told : Option (List (List ℕ × List ℕ))) (new_names : Names) (names : List (List ℕ)) (core : Store C) (start : Exporting Blank) (gathered : Gathered) (bytes : List ℕ) (taken_old taken_mid taken_now : Option (List ℕ)) (before now : ℕ) (result : Outcome)
-    → start ≡ exporting (blank core) → gathered ≡ record { bytes = []; begins = true } → IfAllTold told names (AllTaken new_names (point_at start gathered) gathered.bytes bytes taken_old taken_mid) → EndsWith bytes ended.Done taken_mid taken_now before now result
-    → (store : Store ℕ) → HaveSameShape core store → IfAllTold told names (λ files. Wrote taken_old taken_now (λ written. EndsOf (Export 0 0) store (sources_named new_names files) result written))
-export_done told new_names names core start gathered bytes taken_old taken_mid taken_now before now result s g all ends store same =
-    told_all told names (AllTaken new_names (start_over core) [] bytes taken_old taken_mid) (λ files. Wrote taken_old taken_now (λ written. EndsOf (Export 0 0) store (sources_named new_names files) result written))
-    (λ files t. taken_end core store same new_names files bytes taken_old taken_mid taken_now before now result t ends)
-    (from_start core start gathered (λ p b. IfAllTold told names (AllTaken new_names p b bytes taken_old taken_mid)) s g all)
+pub export_done : {C : Type 0} (told : Option (List (List ℕ × List ℕ))) (overrides : Overrides) (names : List (List ℕ)) (core : Store C) (start : Exporting Blank) (gathered : Gathered) (bytes : List ℕ) (taken_old taken_mid taken_now : Option (List ℕ)) (before now : ℕ) (result : Outcome)
+    → start ≡ exporting (blank core) → gathered ≡ record { bytes = []; begins = true } → IfAllTold told names (AllTaken overrides (point_at start gathered) gathered.bytes bytes taken_old taken_mid) → EndsWith bytes ended.Done taken_mid taken_now before now result
+    → (store : Store ℕ) → HaveSameShape core store → IfAllTold told names (λ files. Wrote taken_old taken_now (λ written. EndsOf (Export 0 0) store (sources_with overrides files) result written))
+export_done told overrides names core start gathered bytes taken_old taken_mid taken_now before now result s g all ends store same =
+    told_all told names (AllTaken overrides (start_over core) [] bytes taken_old taken_mid) (λ files. Wrote taken_old taken_now (λ written. EndsOf (Export 0 0) store (sources_with overrides files) result written))
+    (λ files t. taken_end core store same overrides files bytes taken_old taken_mid taken_now before now result t ends)
+    (from_start core start gathered (λ p b. IfAllTold told names (AllTaken overrides p b bytes taken_old taken_mid)) s g all)
 
-pub done_small : {C : Type 0} (told : Option (List (List ℕ × List ℕ))) (new_names : Names) (names : List (List ℕ)) (core : Store C) (start : Exporting Blank) (gathered : Gathered) (bytes : List ℕ) (taken_old taken_mid : Option (List ℕ)) (result : Outcome)
-    → start ≡ exporting (blank core) → gathered ≡ record { bytes = []; begins = true } → IfAllTold told names (AllTaken new_names (point_at start gathered) gathered.bytes bytes taken_old taken_mid)
-    → (store : Store ℕ) → HaveSameShape core store → IfAllTold told names (λ files. result ≡ ended.Done → AreSmallBy byte_step (start_of store) (renamed new_names (input files)).items)
-done_small told new_names names core start gathered bytes taken_old taken_mid result s g all store same =
-    told_all told names (AllTaken new_names (start_over core) [] bytes taken_old taken_mid) (λ files. result ≡ ended.Done → AreSmallBy byte_step (start_of store) (renamed new_names (input files)).items)
-    (λ files t done. small_is core store (renamed new_names (input files)).items same t.small)
-    (from_start core start gathered (λ p b. IfAllTold told names (AllTaken new_names p b bytes taken_old taken_mid)) s g all)
+pub done_small : {C : Type 0} (told : Option (List (List ℕ × List ℕ))) (overrides : Overrides) (names : List (List ℕ)) (core : Store C) (start : Exporting Blank) (gathered : Gathered) (bytes : List ℕ) (taken_old taken_mid : Option (List ℕ)) (result : Outcome)
+    → start ≡ exporting (blank core) → gathered ≡ record { bytes = []; begins = true } → IfAllTold told names (AllTaken overrides (point_at start gathered) gathered.bytes bytes taken_old taken_mid)
+    → (store : Store ℕ) → HaveSameShape core store → IfAllTold told names (λ files. result ≡ ended.Done → AreSmallBy byte_step (start_of store) (overridden overrides (input files)).items)
+done_small told overrides names core start gathered bytes taken_old taken_mid result s g all store same =
+    told_all told names (AllTaken overrides (start_over core) [] bytes taken_old taken_mid) (λ files. result ≡ ended.Done → AreSmallBy byte_step (start_of store) (overridden overrides (input files)).items)
+    (λ files t done. small_is core store (overridden overrides (input files)).items same t.small)
+    (from_start core start gathered (λ p b. IfAllTold told names (AllTaken overrides p b bytes taken_old taken_mid)) s g all)
 
 -- The export ended early.
-pub export_stops : {C : Type 0} (told : Option (List (List ℕ × List ℕ))) (new_names : Names) (names : List (List ℕ)) (core : Store C) (start : Exporting Blank) (gathered : Gathered) (bytes : List ℕ) (taken_old taken_mid taken_now : Option (List ℕ)) (before now : ℕ) (outcome result : Outcome)
-    → start ≡ exporting (blank core) → gathered ≡ record { bytes = []; begins = true } → IfAllTold told names (AllEnd new_names (point_at start gathered) gathered.bytes bytes taken_old taken_mid (Err outcome)) → EndsWith bytes outcome taken_mid taken_now before now result
-    → (store : Store ℕ) → HaveSameShape core store → IfAllTold told names (λ files. Wrote taken_old taken_now (λ written. EndsOf (Export 0 0) store (sources_named new_names files) result written))
-export_stops told new_names names core start gathered bytes taken_old taken_mid taken_now before now outcome result s g all ends store same =
-    told_all told names (AllEnd new_names (start_over core) [] bytes taken_old taken_mid (Err outcome)) (λ files. Wrote taken_old taken_now (λ written. EndsOf (Export 0 0) store (sources_named new_names files) result written))
-    (λ files t. stops_end core store same new_names files bytes taken_old taken_mid taken_now before now outcome result t ends)
-    (from_start core start gathered (λ p b. IfAllTold told names (AllEnd new_names p b bytes taken_old taken_mid (Err outcome))) s g all)
+pub export_stops : {C : Type 0} (told : Option (List (List ℕ × List ℕ))) (overrides : Overrides) (names : List (List ℕ)) (core : Store C) (start : Exporting Blank) (gathered : Gathered) (bytes : List ℕ) (taken_old taken_mid taken_now : Option (List ℕ)) (before now : ℕ) (outcome result : Outcome)
+    → start ≡ exporting (blank core) → gathered ≡ record { bytes = []; begins = true } → IfAllTold told names (AllEnd overrides (point_at start gathered) gathered.bytes bytes taken_old taken_mid (Err outcome)) → EndsWith bytes outcome taken_mid taken_now before now result
+    → (store : Store ℕ) → HaveSameShape core store → IfAllTold told names (λ files. Wrote taken_old taken_now (λ written. EndsOf (Export 0 0) store (sources_with overrides files) result written))
+export_stops told overrides names core start gathered bytes taken_old taken_mid taken_now before now outcome result s g all ends store same =
+    told_all told names (AllEnd overrides (start_over core) [] bytes taken_old taken_mid (Err outcome)) (λ files. Wrote taken_old taken_now (λ written. EndsOf (Export 0 0) store (sources_with overrides files) result written))
+    (λ files t. stops_end core store same overrides files bytes taken_old taken_mid taken_now before now outcome result t ends)
+    (from_start core start gathered (λ p b. IfAllTold told names (AllEnd overrides p b bytes taken_old taken_mid (Err outcome))) s g all)
 
-pub stops_small : {C : Type 0} (told : Option (List (List ℕ × List ℕ))) (new_names : Names) (names : List (List ℕ)) (core : Store C) (start : Exporting Blank) (gathered : Gathered) (bytes : List ℕ) (taken_old taken_mid taken_now : Option (List ℕ)) (before now : ℕ) (outcome result : Outcome)
-    → start ≡ exporting (blank core) → gathered ≡ record { bytes = []; begins = true } → IfAllTold told names (AllEnd new_names (point_at start gathered) gathered.bytes bytes taken_old taken_mid (Err outcome)) → EndsWith bytes outcome taken_mid taken_now before now result
-    → (store : Store ℕ) → HaveSameShape core store → IfAllTold told names (λ files. result ≡ ended.Done → AreSmallBy byte_step (start_of store) (renamed new_names (input files)).items)
-stops_small told new_names names core start gathered bytes taken_old taken_mid taken_now before now outcome result s g all ends store same =
-    told_all told names (AllEnd new_names (start_over core) [] bytes taken_old taken_mid (Err outcome)) (λ files. result ≡ ended.Done → AreSmallBy byte_step (start_of store) (renamed new_names (input files)).items)
-    (λ files t done. never_done core store same new_names files bytes taken_old taken_mid taken_now before now outcome result t ends done)
-    (from_start core start gathered (λ p b. IfAllTold told names (AllEnd new_names p b bytes taken_old taken_mid (Err outcome))) s g all)
+pub stops_small : {C : Type 0} (told : Option (List (List ℕ × List ℕ))) (overrides : Overrides) (names : List (List ℕ)) (core : Store C) (start : Exporting Blank) (gathered : Gathered) (bytes : List ℕ) (taken_old taken_mid taken_now : Option (List ℕ)) (before now : ℕ) (outcome result : Outcome)
+    → start ≡ exporting (blank core) → gathered ≡ record { bytes = []; begins = true } → IfAllTold told names (AllEnd overrides (point_at start gathered) gathered.bytes bytes taken_old taken_mid (Err outcome)) → EndsWith bytes outcome taken_mid taken_now before now result
+    → (store : Store ℕ) → HaveSameShape core store → IfAllTold told names (λ files. result ≡ ended.Done → AreSmallBy byte_step (start_of store) (overridden overrides (input files)).items)
+stops_small told overrides names core start gathered bytes taken_old taken_mid taken_now before now outcome result s g all ends store same =
+    told_all told names (AllEnd overrides (start_over core) [] bytes taken_old taken_mid (Err outcome)) (λ files. result ≡ ended.Done → AreSmallBy byte_step (start_of store) (overridden overrides (input files)).items)
+    (λ files t done. never_done core store same overrides files bytes taken_old taken_mid taken_now before now outcome result t ends done)
+    (from_start core start gathered (λ p b. IfAllTold told names (AllEnd overrides p b bytes taken_old taken_mid (Err outcome))) s g all)
 
 -- ---- causes
 

@@ -107,7 +107,8 @@ left_by now (UpdateExtent size path offset) e w = (refl, refl)
 left_by now (Fallocate size path offset mode) e w = cc
 left_by now (FileAttr path flags) e w = (refl, refl)
 
--- What is known right before a command is taken that opens no file: it writes to no path, or to the one that is open.
+-- What is known right before a command is taken that opens no file: it writes to no path, or to the
+-- one that is open.
 pub ready_left : (now : Exporting Blank) (c : Command) → None ≡ written_path c → now ≡ opened_for now c → now ≡ ready_for now c
 ready_left now c e same = same ∙ ap (λ (w : Option (List ℕ)). elim (opening now.opened w) as (λ x. Exporting Blank) [ None ↦ opened_for now c | Some p ↦ now ]) e
 
@@ -177,7 +178,8 @@ detour_added s version other path n m k a b c d e np mp kp is bp cp dp ep =
 
 -- ---- the file that is open
 
--- What is known of a value whose fields are open, where another inode comes to be open by the same path.
+-- What is known of a value whose fields are open, where another inode comes to be open by the same
+-- path.
 pub opened_again : (state : State Blank) (p other path : List ℕ) (i : Option ℕ) (ino now : ℕ) (self : Exporting Blank) → record { state = state; opened = option_map (λ k. opened_by p k) i; other = other } ≡ self
     → kept_at self.opened (Some path) ≡ Some ino
     → ◌≡◌ {A = Exporting Blank} (record { state = state; opened = Some (opened_by p now); other = other }) (record { state = self.state; opened = Some (opened_by path now); other = self.other })

@@ -1,4 +1,5 @@
--- What is exported over subvolumes whose cells carry nothing: no separator and no step looks at cells. This program's own.
+-- What is exported over subvolumes whose cells carry nothing: no separator and no step looks at
+-- cells. This program's own.
 use Rattle.std.specs.Prelude.{is_some, ◌||◌, ◌≡◌, ℕ, Bool, List, [], ◌∷◌, ◌++◌, Option, None, Some}
 use Rattle.std.specs.Option.{option_map}
 use Rattle.send_model.specs.Command.{Command}
@@ -34,7 +35,8 @@ all_receivable version (c ∷ cs) = receivable version c ++ all_receivable versi
 abbrev pub before : Exporting Blank → Command → List Command
 before now c = separator now.opened now.other now.state c
 
--- What is known after what goes before a command: the file that is open then, and the path before it.
+-- What is known after what goes before a command: the file that is open then, and the path before
+-- it.
 abbrev pub opened_for : Exporting Blank → Command → Exporting Blank
 opened_for now c = record now { opened = open_anew now.opened now.state c; other = other_path now.other now.opened (written_path c) }
 
@@ -43,7 +45,8 @@ abbrev pub opening : Option Opened → Option (List ℕ) → Option (List ℕ)
 opening opened None = None
 opening opened (Some path) = elim (kept_at opened (Some path)) [ None ↦ Some path | Some ino ↦ None ]
 
--- What is known right before a command is taken: the same, where it opens a file; else what is known after what goes before it.
+-- What is known right before a command is taken: the same, where it opens a file; else what is
+-- known after what goes before it.
 abbrev pub ready_for : Exporting Blank → Command → Exporting Blank
 ready_for now c = elim (opening now.opened (written_path c)) [ None ↦ opened_for now c | Some path ↦ now ]
 
@@ -51,7 +54,8 @@ ready_for now c = elim (opening now.opened (written_path c)) [ None ↦ opened_f
 abbrev pub opened_by : List ℕ → ℕ → Opened
 opened_by path ino = record { path = path; ino = ino }
 
--- A path that was not open is opened, if it leads to an inode; the one that was open is the one before it.
+-- A path that was not open is opened, if it leads to an inode; the one that was open is the one
+-- before it.
 abbrev pub opened_anew : Exporting Blank → List ℕ → Option ℕ → Exporting Blank
 opened_anew now path ino = record now {
   opened = option_map (λ i. opened_by path i) ino;
@@ -77,7 +81,8 @@ written_from point items = exported_from point.begins (separated_by blank_does p
 abbrev pub SmallFrom : Point → List Item → Type 0
 SmallFrom point items = AreSmallBy blank_does point.now.state items
 
--- Items are all taken and lead from one point to another, and these bytes are written of them; what else is read comes after.
+-- Items are all taken and lead from one point to another, and these bytes are written of them; what
+-- else is read comes after.
 pub record Goes (old : Point) (items : List Item) (new : Point) (text : List ℕ) : Type 0 where
   pub accepted : AreAccepted (beside [] old.now.state) items (beside [] new.now.state)
   pub written : (more : List Item) → written_from old (items ++ more) ≡ text ++ written_from new more

@@ -9,7 +9,7 @@ use Rattle.send_model.specs.Exported.{Exporting, exporting_after}
 use Rattle.send_model.specs.Separated.{IsSmall}
 use Rattle.send_model.specs.Headline.{IsFrontOf}
 use Rattle.send_model.specs.Due.{DoneWhole, RefusedAt, TooLong, Limited, AtEnd, AtFault, AtLimit, limited_from}
-use Rattle.send_model.specs.Renamed.{Names, renamed, renamed_limited}
+use Rattle.send_model.specs.Overridden.{Override, Overrides, overridden, overridden_limited}
 use Rattle.sx_base.specs.Calls.{Wrote}
 use Rattle.sx_base.specs.Causes.{Rose}
 use Rattle.sx_base.specs.Refusals.{refusal_of, verdict_meant}
@@ -20,14 +20,15 @@ use Rattle.sx_base.specs.declared.sink.Sink as writing
 use Rattle.sx_base.specs.declared.stop.Stop.{Stop}
 use Rattle.sx_base.specs.declared.stop.Stop.TheVariants as why
 use Rattle.stream_dump.specs.declared.gathering.Gathered.{Gathered}
-use Rattle.auditor.specs.Following.{beside, due_from_here, then_read, named_read, file_read, read_whole}
+use Rattle.auditor.specs.Following.{beside, due_from_here, then_read, read_with, file_read, read_whole}
 use Rattle.stream_export.specs.Exporting.{Blank, blank_does, export_bytes, Point, written_from, SmallFrom, Goes}
 
 -- What an export knows between two commands.
 abbrev pub point_at : Exporting Blank → Gathered → Point
 point_at now gathered = record { now = now; begins = gathered.begins }
 
--- Where an export stands: what it knows, the bytes that are gathered, and those that the output took, where it tells.
+-- Where an export stands: what it knows, the bytes that are gathered, and those that the output
+-- took, where it tells.
 pub record Spot : Type 0 where
   pub point : Point
   pub bytes : List ℕ
@@ -38,7 +39,8 @@ spot_at out now gathered to = record { point = point_at now gathered; bytes = ga
 
 -- ---- one command
 
--- A command is taken, and its bytes are appended, or it is refused and nothing is. Without memory nothing is said.
+-- A command is taken, and its bytes are appended, or it is refused and nothing is. Without memory
+-- nothing is said.
 abbrev pub Takes : (old : Point) (new : Exporting Blank) → Item → (bytes_old bytes_new : List ℕ) → Result (Unit {0}) Stop → Type 0
 Takes old new item bytes_old bytes_new (Ok done) =
     (blank_does old.now.state item ≡ record { state = new.state; refusal = None })
@@ -87,8 +89,9 @@ ItemEnds old new item before now (Err outcome) = ItemStops old new item before n
 
 -- ---- what is read from a point on
 
--- An outcome that ends an export early is the answer that is due, and all that is written from the point on was gathered or written.
--- Where an object of the outside failed or there is no memory, a front part of it was written.
+-- An outcome that ends an export early is the answer that is due, and all that is written from the
+-- point on was gathered or written. Where an object of the outside failed or there is no memory, a
+-- front part of it was written.
 abbrev pub Stops : (old : Spot) → Limited → (bytes : List ℕ) (taken : Option (List ℕ)) → Outcome → Type 0
 Stops old read bytes taken (ended.Refused verdict) =
     (due_from_here (beside [] old.point.now.state) read ≡ RefusedAt (verdict_meant verdict)) × Passes old.bytes bytes (written_from old.point read.items) old.taken taken
@@ -109,27 +112,27 @@ then_others first more = elim first.stop [
   | AtLimit file ↦ first
 ]
 
--- All commands of a file are taken, with the name that is given with it for its heads.
-pub record FileTaken (name : Option (List ℕ)) (file : ℕ) (old new : Spot) (bytes : List ℕ) : Type 0 where
+-- All commands of a file are taken, with what is said in front of it.
+pub record FileTaken (said : Override) (file : ℕ) (old new : Spot) (bytes : List ℕ) : Type 0 where
   pub items : List Item
   pub text : List ℕ
-  pub read : named_read name (file_read file bytes) ≡ read_whole items
+  pub read : read_with said (file_read file bytes) ≡ read_whole items
   pub goes : Goes old.point items new.point text
   pub passes : Passes old.bytes new.bytes text old.taken new.taken
 
 -- A file is exported, or it ends the export, whatever is read of the files that come after it.
-abbrev pub FileEnds : (name : Option (List ℕ)) (file : ℕ) (old new : Spot) → Result (Unit {0}) Outcome → (bytes : List ℕ) → Type 0
-FileEnds name file old new (Ok done) bytes = FileTaken name file old new bytes
-FileEnds name file old new (Err outcome) bytes = (more : Limited) → Stops old (then_others (named_read name (file_read file bytes)) more) new.bytes new.taken outcome
+abbrev pub FileEnds : (said : Override) (file : ℕ) (old new : Spot) → Result (Unit {0}) Outcome → (bytes : List ℕ) → Type 0
+FileEnds said file old new (Ok done) bytes = FileTaken said file old new bytes
+FileEnds said file old new (Err outcome) bytes = (more : Limited) → Stops old (then_others (read_with said (file_read file bytes)) more) new.bytes new.taken outcome
 
 -- ---- all files
 
--- All commands of the files are taken, with the names that are given.
-pub record AllTaken (names : Names) (old : Spot) (bytes : List ℕ) (taken : Option (List ℕ)) (files : List (List ℕ)) : Type 0 where
-  pub done : due_from_here (beside [] old.point.now.state) (renamed_limited names (limited_from 1 files)) ≡ DoneWhole
-  pub passes : Passes old.bytes bytes (written_from old.point (renamed_limited names (limited_from 1 files)).items) old.taken taken
-  pub small : SmallFrom old.point (renamed names (input files)).items
+-- All commands of the files are taken, with what is said in front of them.
+pub record AllTaken (overrides : Overrides) (old : Spot) (bytes : List ℕ) (taken : Option (List ℕ)) (files : List (List ℕ)) : Type 0 where
+  pub done : due_from_here (beside [] old.point.now.state) (overridden_limited overrides (limited_from 1 files)) ≡ DoneWhole
+  pub passes : Passes old.bytes bytes (written_from old.point (overridden_limited overrides (limited_from 1 files)).items) old.taken taken
+  pub small : SmallFrom old.point (overridden overrides (input files)).items
 
-abbrev pub AllEnd : Names → (old : Spot) (bytes : List ℕ) (taken : Option (List ℕ)) → Result (Unit {0}) Outcome → (files : List (List ℕ)) → Type 0
-AllEnd names old bytes taken (Ok done) files = AllTaken names old bytes taken files
-AllEnd names old bytes taken (Err outcome) files = Stops old (renamed_limited names (limited_from 1 files)) bytes taken outcome
+abbrev pub AllEnd : Overrides → (old : Spot) (bytes : List ℕ) (taken : Option (List ℕ)) → Result (Unit {0}) Outcome → (files : List (List ℕ)) → Type 0
+AllEnd overrides old bytes taken (Ok done) files = AllTaken overrides old bytes taken files
+AllEnd overrides old bytes taken (Err outcome) files = Stops old (overridden_limited overrides (limited_from 1 files)) bytes taken outcome

@@ -57,7 +57,8 @@ impl<R: Origin> Model for Exporter<R> {
 }
 
 impl<R: Origin> Exporter<R> {
-    // Nothing is open, before the first command. The origin reaches as far as the data of any command.
+    // Nothing is open, before the first command. The origin reaches as far as the data of any
+    // command.
     pub(crate) fn new(alloc: Global, core: EditCore<R>, origin: R) -> Exporter<R>
         requires reach { 2 ^ 18 ≤ R.reach origin }
         ensures start { result ≡ exporting (blank core) }
@@ -121,7 +122,8 @@ impl<R: Origin> Exporter<R> {
         }
     }
 
-    // Appends the bytes of a command, and gives the path that it opens, if it writes to one that is not open.
+    // Appends the bytes of a command, and gives the path that it opens, if it writes to one that is
+    // not open.
     fn push_item<'c>(
         &mut self,
         begins: bool,
@@ -151,7 +153,8 @@ impl<R: Origin> Exporter<R> {
         Ok(opens)
     }
 
-    // Appends what goes before a command. Gives the path that the command opens, if it writes to one that is not open.
+    // Appends what goes before a command. Gives the path that the command opens, if it writes to
+    // one that is not open.
     fn push_before<'c>(
         &mut self,
         command: &Command<'c>,
@@ -204,7 +207,8 @@ impl<R: Origin> Exporter<R> {
         }
     }
 
-    // Goes on with the path that is open, with a separator in front where it leads to another inode than the one that is open.
+    // Goes on with the path that is open, with a separator in front where it leads to another inode
+    // than the one that is open.
     fn open_again(
         &mut self,
         path: &[u8],

@@ -40,8 +40,8 @@ pub(crate) fn push_receivable(
     }
 }
 
-// The same, but of UTIMES as if its frame had not come. The canonical spelling of a command of which nothing more is asked is the
-// receivable one: a frame that came in it goes out as it came.
+// The same, but of UTIMES as if its frame had not come. The canonical spelling of a command of
+// which nothing more is asked is the receivable one: a frame that came in it goes out as it came.
 #[tactic(auto, using(receivable_form::proofs::Frames::plain_is))]
 fn push_read(item: &Item<'_>, frame: &[u8], to: &mut Blob) -> Result<(), AllocError>
     requires frame { item.now.canonical ≡ true

@@ -10,7 +10,8 @@ use send_commands::{Kind, Time};
 use tlv_frame::FRAME_HEAD_LEN;
 use tlv_frame::attribute_numbers::{ATIME, CTIME, MTIME, PATH};
 
-// Whether a frame is UTIMES with these values in the receivable spelling. The time of the last change is often that of the contents.
+// Whether a frame is UTIMES with these values in the receivable spelling. The time of the last
+// change is often that of the contents.
 pub(crate) fn is_times(frame: &[u8], mtime: Time, atime: Time, path: &[u8]) -> bool
     requires framed { IsFramed frame.now }
     ensures same { (version : ℕ) → IsTrue result
@@ -37,7 +38,8 @@ fn behind_times<'a>(frame: &'a [u8], mtime: Time, atime: Time, path: &[u8]) -> O
     behind(body, PATH, path)
 }
 
-// The body of a frame whose checksum is right, where the frame is of this number and ends with its body.
+// The body of a frame whose checksum is right, where the frame is of this number and ends with its
+// body.
 #[tactic(auto, unfolding(send_model::specs::Reading::number16, send_model::specs::Reading::number32))]
 fn body_in(frame: &[u8], number: u16) -> Option<&[u8]>
     requires framed { IsFramed frame.now }

@@ -10,7 +10,8 @@ use std::alloc::{AllocError, Global};
 use std::marker::Model;
 use sx_base::Blob;
 
-/// A chain of which some parts are made. It is seen as the number that it is made from, and how many parts are made.
+/// A chain of which some parts are made. It is seen as the number that it is made from, and how
+/// many parts are made.
 #[derive(Debug, Drop)]
 pub struct Chain {
     alloc: Global,
@@ -43,8 +44,8 @@ impl Chain {
         }
     }
 
-    /// Appends the next part, a whole stream. Without memory the chain is unchanged, and the blob begins with the bytes that it
-    /// had; some of the part may stand behind them.
+    /// Appends the next part, a whole stream. Without memory the chain is unchanged, and the blob
+    /// begins with the bytes that it had; some of the part may stand behind them.
     pub fn next_part(&mut self, to: &mut Blob) -> Result<(), AllocError>
         requires room { self.old.parts + 1 < 2 ^ 64 }
         ensures appended { OnOk result

@@ -10,8 +10,9 @@ use crate::chain::Chain;
 use std::alloc::{AllocError, Global};
 use sx_base::{Blob, Outcome, Sink, write_whole};
 
-/// Appends one part of a chain of `count` parts, a whole stream of version 1; parts are counted from 1. The numbers for the parts
-/// before are drawn first. Without memory the blob begins with the bytes that it had, and some of the part may stand behind them.
+/// Appends one part of a chain of `count` parts, a whole stream of version 1; parts are counted
+/// from 1. The numbers for the parts before are drawn first. Without memory the blob begins with
+/// the bytes that it had, and some of the part may stand behind them.
 pub fn generate(
     alloc: Global,
     count: u64,

@@ -103,7 +103,8 @@ module _ {C : Type 0} (s : Subvolume C) where
       ∙ cells_twice ino (λ _. []) (λ _. new) s found.0 found.1
       ∙ same_change ino found.0 found.1 (set_cells (λ _. new)) (set_cells change) (ap (λ (cells : List C). set_cells (λ _. cells) found.0) (made ∙ ap change (was ∙ cells_found s ino found.0 found.1)))
 
-  -- The same for the file that a path leads to, in a tree that the search for it has left as it was.
+  -- The same for the file that a path leads to, in a tree that the search for it has left as it
+  -- was.
   pub put_back_at : (path : List ℕ) (ino : ℕ) → file_at s path ≡ Ok ino → (first : Subvolume C) → first ≡ s → (t : Subvolume C) → t ≡ change_inode ino (set_cells (λ _. [])) first → (change : List C → List C) (old new : List C)
       → old ≡ cells_of first ino → new ≡ change old → (u : Subvolume C) → u ≡ change_inode ino (set_cells (λ _. new)) t → ◌≡◌ {A = Result (Subvolume C) Refusal} (Ok (change_inode ino (set_cells change) s)) (Ok u)
   put_back_at path ino there first still t taken change old new was made u put =

@@ -1,5 +1,5 @@
--- The files that paths lead to, and the tests of a clone in parts. Source: this program's own; the tests are those of the
--- definitions, in their order.
+-- The files that paths lead to, and the tests of a clone in parts. Source: this program's own; the
+-- tests are those of the definitions, in their order.
 use Rattle.std.specs.Prelude.{ℕ, ◌+◌, ◌==◌, ◌||◌, List, Result, Ok, nat_lt, nat_le, is_some}
 use Rattle.send_model.specs.Refusal.{Refusal, BadPath, NotFile, BadRange, Unaligned, FileTooBig}
 use Rattle.send_model.specs.Chain.{◌>>=◌, ◌>>◌, require, refuse_if}

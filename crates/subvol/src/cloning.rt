@@ -14,7 +14,8 @@ use path_rules::split;
 use std::alloc::{AllocError, Global};
 use sx_base::{Refusal, Stop};
 
-// Clones begin at a multiple of this. Source: the block size that BTRFS_IOC_CLONE_RANGE asks for on x86.
+// Clones begin at a multiple of this. Source: the block size that BTRFS_IOC_CLONE_RANGE asks for on
+// x86.
 const BLOCK_LEN: u64 = 4_096;
 
 /// A range of a file that is cloned.
@@ -29,12 +30,12 @@ pub struct SourceRange<'a> {
 }
 
 impl<O: Origin> Subvol<O> {
-    /// Puts the cells of a range of a file at the place `at` of a file of the same subvolume, as CLONE. After `NoMemory` nothing is
-    /// said of the subvolume.
+    /// Puts the cells of a range of a file at the place `at` of a file of the same subvolume, as
+    /// CLONE. After `NoMemory` nothing is said of the subvolume.
     ///
     /// # Errors
-    /// The first refusal of CLONE but NoSource: BadPath of either path, those of the walk, NotFile, the same of the source, BadRange,
-    /// Unaligned, FileTooBig, Overlap; then nothing changes.
+    /// The first refusal of CLONE but NoSource: BadPath of either path, those of the walk, NotFile,
+    /// the same of the source, BadRange, Unaligned, FileTooBig, Overlap; then nothing changes.
     pub fn clone_here(&mut self, path: &[u8], at: u64, range: &SourceRange<'_>) -> Result<(), Stop>
         ensures { MayChange result self.old self.new
             (meant.clone None self.old (Some self.old) true
@@ -53,12 +54,13 @@ impl<O: Origin> Subvol<O> {
         Ok(())
     }
 
-    /// Puts the cells of a range of a file of another subvolume at the place `at` of a file, as CLONE. After `NoMemory` nothing is
-    /// said of the subvolume.
+    /// Puts the cells of a range of a file of another subvolume at the place `at` of a file, as
+    /// CLONE. After `NoMemory` nothing is said of the subvolume.
     ///
     /// # Errors
-    /// The first refusal of CLONE but NoSource and Overlap: BadPath of either path, those of the walk, NotFile, the same of the
-    /// source, BadRange, Unaligned, FileTooBig; then nothing changes.
+    /// The first refusal of CLONE but NoSource and Overlap: BadPath of either path, those of the
+    /// walk, NotFile, the same of the source, BadRange, Unaligned, FileTooBig; then nothing
+    /// changes.
     pub fn clone_from(
         &mut self,
         path: &[u8],

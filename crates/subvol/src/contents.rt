@@ -20,11 +20,12 @@ use sx_base::{Refusal, Stop};
 const GREATEST_END: u64 = (1 << 63) - 1;
 
 impl<O: Origin> Subvol<O> {
-    /// Puts a run of `len` cells from an origin at the place `at` of a file, as WRITE; a gap before it is filled with zero cells.
-    /// After `NoMemory` nothing is said of the subvolume.
+    /// Puts a run of `len` cells from an origin at the place `at` of a file, as WRITE; a gap before
+    /// it is filled with zero cells. After `NoMemory` nothing is said of the subvolume.
     ///
     /// # Errors
-    /// The refusals of the walk, NotFile, then FileTooBig where the run ends above 2^63 - 1; then nothing changes.
+    /// The refusals of the walk, NotFile, then FileTooBig where the run ends above 2^63 - 1; then
+    /// nothing changes.
     pub fn write(&mut self, path: &[u8], at: u64, origin: O, len: u64) -> Result<(), Stop>
         requires { len ≤ O.reach origin }
         ensures { MayChange result self.old self.new
@@ -39,11 +40,12 @@ impl<O: Origin> Subvol<O> {
         Ok(())
     }
 
-    /// Cuts the contents of a file to a size, or fills them with zero cells, as TRUNCATE. After `NoMemory` nothing is said of the
-    /// subvolume.
+    /// Cuts the contents of a file to a size, or fills them with zero cells, as TRUNCATE. After
+    /// `NoMemory` nothing is said of the subvolume.
     ///
     /// # Errors
-    /// The refusals of the walk, NotFile, then FileTooBig where the size is above 2^63 - 1; then nothing changes.
+    /// The refusals of the walk, NotFile, then FileTooBig where the size is above 2^63 - 1; then
+    /// nothing changes.
     pub fn truncate(&mut self, path: &[u8], size: u64) -> Result<(), Stop>
         ensures { MayChange result self.old self.new
             (edit.change_contents path.now size (edit.resized None size) self.old) }
@@ -56,12 +58,12 @@ impl<O: Origin> Subvol<O> {
         Ok(())
     }
 
-    /// Lengthens a file, punches a hole or zeroes a range of it by the mode, as FALLOCATE. After `NoMemory` nothing is said of the
-    /// subvolume.
+    /// Lengthens a file, punches a hole or zeroes a range of it by the mode, as FALLOCATE. After
+    /// `NoMemory` nothing is said of the subvolume.
     ///
     /// # Errors
-    /// The refusals of the walk, NotFile, BadFallocate where the mode is none of 0, 1, 3, 16 and 17, then FileTooBig where the range
-    /// ends above 2^63 - 1; then nothing changes.
+    /// The refusals of the walk, NotFile, BadFallocate where the mode is none of 0, 1, 3, 16 and
+    /// 17, then FileTooBig where the range ends above 2^63 - 1; then nothing changes.
     pub fn fallocate(&mut self, path: &[u8], mode: u32, at: u64, len: u64) -> Result<(), Stop>
         ensures { MayChange result self.old self.new
             (edit.fallocate None path.now at len mode self.old) }

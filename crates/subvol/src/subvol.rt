@@ -11,8 +11,8 @@ use inode_tree::{Starts, Tree};
 use std::alloc::{AllocError, Global};
 use std::marker::Model;
 
-/// The inodes, names and contents of a subvolume, seen as that of the definitions over cells that are an origin or zero. A copy
-/// shares all that neither changes.
+/// The inodes, names and contents of a subvolume, seen as that of the definitions over cells that
+/// are an origin or zero. A copy shares all that neither changes.
 #[derive(Debug, Drop)]
 pub struct Subvol<O: Origin> {
     pub(crate) tree: Tree<O>,
@@ -49,8 +49,9 @@ impl<O: Origin> Subvol<O> {
         })
     }
 
-    /// A subvolume of the same inodes and names, where the contents of each inode are one run of their old size from the start of
-    /// its number. It shares the names, and no inode. Fails for want of memory alone.
+    /// A subvolume of the same inodes and names, where the contents of each inode are one run of
+    /// their old size from the start of its number. It shares the names, and no inode. Fails for
+    /// want of memory alone.
     pub fn retraced<P: Origin, S: Starts<P>>(&self, starts: &S) -> Result<Subvol<P>, AllocError>
         requires { AreReached P.reach (S.starts starts.now) self.now.inodes }
         ensures { IfOk result
@@ -69,8 +70,8 @@ impl<O: Origin> Subvol<O> {
         &self.tree
     }
 
-    /// How many inodes were copied since the subvolume was made, because a change met one that another subvolume shares. At the
-    /// greatest u64 it stays. Takes no memory.
+    /// How many inodes were copied since the subvolume was made, because a change met one that
+    /// another subvolume shares. At the greatest u64 it stays. Takes no memory.
     pub fn copied(&self) -> u64 {
         self.tree.copied()
     }

@@ -3,3 +3,4 @@ mod Admissions
 mod Pairs
 mod Numbers
 mod Views
+mod Tombstones

@@ -1,5 +1,5 @@
--- Entries under their numbers: what is found through the number of a UUID is what the UUID finds, also once an entry came,
--- took its value or went.
+-- Entries under their numbers: what is found through the number of a UUID is what the UUID finds,
+-- also once an entry came, took its value or went.
 use Rattle.std.proofs.Common.{◌≡◌, ℕ, ◌+◌, ◌<◌, Bool, true, false, cond, ◌==◌, List, [], ◌∷◌, ◌++◌, Some, None, Option, refl, sym, ap, ◌∙◌, arith}
 use Rattle.std.proofs.lemmas.Bool.{eqb-true, eqb-false, ne_eqb}
 use Rattle.std.specs.Str.{bytes_eq}
@@ -58,16 +58,6 @@ none_less {V} m n (p ∷ es) f = one (n == p.0) (m == p.0) refl f (none_less m n
 abbrev its : {V : Type 0} → List ℕ → Option (Entry V) → Option (Entry V)
 its u None = None
 its u (Some e) = cond (bytes_eq e.key.uuid u) (Some e) None
-
--- The next number is no entry's.
-pub unused : {V : Type 0} (uuids : List (List ℕ × ℕ)) (next : ℕ) (es : List (ℕ × Entry V)) → AreNumbered uuids next es → lookup (λ k. next == k) es ≡ None
-unused uuids next [] l = refl
-unused {V} uuids next (p ∷ es) l =
-    let apart : (next == p.0) ≡ false = ne_eqb next p.0 (above p.0 next l.1) in
-    ap (λ (b : Bool). cond b (Some p.1) (lookup (λ k. next == k) es)) apart ∙ unused uuids next es l.3
-  where
-    above : (m n : ℕ) → m < n → n ≡ m → ⊥
-    above m n f e = omega arith
 
 module _ {V : Type 0} (uuids : List (List ℕ × ℕ)) (next : ℕ) where
   -- A UUID that leads nowhere finds nothing.

@@ -1,5 +1,5 @@
--- Rows that are ordered by the bytes of their keys, as those of names and of UUIDs: what they find once a row was put in or
--- taken out.
+-- Rows that are ordered by the bytes of their keys, as those of names and of UUIDs: what they find
+-- once a row was put in or taken out.
 use Rattle.std.proofs.Common.{◌≡◌, ℕ, Bool, true, false, cond, List, [], ◌∷◌, Some, None, Option, refl, sym, ap, ◌∙◌}
 use Rattle.std.proofs.lemmas.Map.Text.{is_eq-slice_cmp}
 use Rattle.std.specs.declared.cmp.Ordering.{Ordering}

@@ -1,4 +1,5 @@
--- Entries under their UUIDs: what is found among them, and what adding, completing and taking out one makes of them.
+-- Entries under their UUIDs: what is found among them, and what adding, completing and taking out
+-- one makes of them.
 use Rattle.std.proofs.Common.{◌≡◌, ℕ, Bool, true, false, cond, not, ◌&&◌, ◌||◌, ◌==◌, List, [], ◌∷◌, ◌++◌, Some, None, Option, is_some, Vec, refl, sym, ap, subst, ◌∙◌}
 use Rattle.std.proofs.lemmas.Bool.{false≢true}
 use Rattle.std.specs.Str.{bytes_eq}
@@ -8,8 +9,8 @@ use Rattle.std.specs.Option.{option_map}
 use Rattle.send_model.specs.Store.{IsStore, has_name, has_uuid, find, with_contents}
 use Rattle.send_model.proofs.Stores.{bytes_eq_same, bytes_eq_true}
 use Rattle.subvol_catalog.specs.declared.entry.Entry.{Entry}
-use Rattle.subvol_catalog.specs.Entries.{entry_of, listed, of_uuid, AreNamed}
-use Rattle.subvol_catalog.specs.Admission.{uuid_named, without_name, without_uuid}
+use Rattle.subvol_catalog.specs.Entries.{entry_of, listed, of_uuid, named, AreNamed}
+use Rattle.subvol_catalog.specs.Admission.{without_name, without_uuid}
 use Rattle.subvol_catalog.specs.Indexes.{led_to, IsListed, AreListed}
 
 pub some≢none : {X : Type 0} (x : X) → Some x ≡ None → ⊥
@@ -38,9 +39,10 @@ mapped f None = refl
 mapped f (Some x) = refl
 
 -- Whether a name is there.
-pub name_there : {S : Type 0} (name : List ℕ) (es : List (meant.Entry S)) → is_some (uuid_named name es) ≡ has_name name es
+pub name_there : {S : Type 0} (name : List ℕ) (es : List (meant.Entry S)) → is_some (named name es) ≡ has_name name es
+unfolding named
 name_there name [] = refl
-name_there name (e ∷ es) = is_some_cond (bytes_eq e.name name) e.key.uuid (uuid_named name es) ∙ ap (λ (b : Bool). bytes_eq e.name name || b) (name_there name es)
+name_there name (e ∷ es) = is_some_cond (bytes_eq e.name name) e (named name es) ∙ ap (λ (b : Bool). bytes_eq e.name name || b) (name_there name es)
 
 -- A UUID that no entry has finds nothing.
 pub finds_none : {S : Type 0} (key : meant.Key) (es : List (meant.Entry S)) → has_uuid key.uuid es ≡ false → find es key ≡ None
@@ -82,14 +84,15 @@ pub uuid_finds : {S : Type 0} (u : List ℕ) (es : List (meant.Entry S)) → is_
 uuid_finds u [] = refl
 uuid_finds u (e ∷ es) = is_some_cond (bytes_eq e.key.uuid u) e (of_uuid u es) ∙ ap (λ (b : Bool). bytes_eq e.key.uuid u || b) (uuid_finds u es)
 
--- The UUID that a name finds is there.
-pub named_uuid : {S : Type 0} (name u : List ℕ) (es : List (meant.Entry S)) → uuid_named name es ≡ Some u → has_uuid u es ≡ true
-named_uuid name u [] e = absurd (some≢none u (sym e))
-named_uuid {S} name u (x ∷ es) e = one (bytes_eq x.name name) e (named_uuid name u es)
+-- The UUID of the entry that a name finds is there.
+pub uuid_of_named : {S : Type 0} (name : List ℕ) (es : List (meant.Entry S)) (found : meant.Entry S) → named name es ≡ Some found → has_uuid found.key.uuid es ≡ true
+unfolding named
+uuid_of_named name [] found e = absurd (some≢none found (sym e))
+uuid_of_named {S} name (x ∷ es) found e = one (bytes_eq x.name name) e (uuid_of_named name es found)
   where
-    one : (b : Bool) → cond b (Some x.key.uuid) (uuid_named name es) ≡ Some u → (uuid_named name es ≡ Some u → has_uuid u es ≡ true) → bytes_eq x.key.uuid u || has_uuid u es ≡ true
-    one true e more = let same : x.key.uuid ≡ u = some_same x.key.uuid u e in ap (λ (b : Bool). b || has_uuid u es) (ap (λ (y : List ℕ). bytes_eq y u) same ∙ bytes_eq_same u)
-    one false e more = or_true (bytes_eq x.key.uuid u) (has_uuid u es) (more e)
+    one : (b : Bool) → cond b (Some x) (named name es) ≡ Some found → (named name es ≡ Some found → has_uuid found.key.uuid es ≡ true) → bytes_eq x.key.uuid found.key.uuid || has_uuid found.key.uuid es ≡ true
+    one true e more = let same : x ≡ found = some_same x found e in ap (λ (b : Bool). b || has_uuid found.key.uuid es) (ap (λ (y : meant.Entry S). bytes_eq y.key.uuid found.key.uuid) same ∙ bytes_eq_same found.key.uuid)
+    one false e more = or_true (bytes_eq x.key.uuid found.key.uuid) (has_uuid found.key.uuid es) (more e)
 
 -- What a key finds, by the entry of its UUID.
 abbrev in_entry : {V : Type 0} → meant.Key → Option (Entry V) → Option V
@@ -102,14 +105,14 @@ of_key key None = None
 of_key key (Some e) = cond (e.key.ctransid == key.ctransid) e.contents None
 
 -- What a name finds, by the entry of the UUID to which it leads.
-abbrev if_named : {V : Type 0} → List ℕ → List ℕ → Option (Entry V) → Option (List ℕ)
-if_named name u None = None
-if_named name u (Some e) = cond (bytes_eq e.name name) (Some u) None
+abbrev if_named : {V : Type 0} → List ℕ → Option (Entry V) → Option (meant.Entry V)
+if_named name None = None
+if_named name (Some e) = cond (bytes_eq e.name name) (Some (entry_of e)) None
 
 -- What a name finds, by the entry of its UUID as the definitions have it.
-abbrev pub of_name : {S : Type 0} → List ℕ → List ℕ → Option (meant.Entry S) → Option (List ℕ)
-of_name name u None = None
-of_name name u (Some e) = cond (bytes_eq e.name name) (Some u) None
+abbrev pub of_name : {S : Type 0} → List ℕ → Option (meant.Entry S) → Option (meant.Entry S)
+of_name name None = None
+of_name name (Some e) = cond (bytes_eq e.name name) (Some e) None
 
 module _ {A V : Type 0} (names : List (Vec ℕ A × List ℕ)) where
   -- An entry has the UUID under which it stands.
@@ -175,34 +178,32 @@ module _ {A V : Type 0} (names : List (Vec ℕ A × List ℕ)) where
   -- ---- names
 
   -- A name that leads nowhere is no entry's.
-  pub none_named : (name : List ℕ) (ps : List (List ℕ × Entry V)) → AreListed names ps → led_to names name ≡ None → uuid_named name (listed ps) ≡ None
+  pub none_named : (name : List ℕ) (ps : List (List ℕ × Entry V)) → AreListed names ps → led_to names name ≡ None → named name (listed ps) ≡ None
+  unfolding named
   none_named name [] l e = refl
   none_named name (p ∷ ps) l e = one (bytes_eq p.1.name name) refl (none_named name ps l.2 e)
     where
-      one : (b : Bool) → bytes_eq p.1.name name ≡ b → uuid_named name (listed ps) ≡ None → cond b (Some p.1.key.uuid) (uuid_named name (listed ps)) ≡ None
+      one : (b : Bool) → bytes_eq p.1.name name ≡ b → named name (listed ps) ≡ None → cond b (Some (entry_of p.1)) (named name (listed ps)) ≡ None
       one true t more = absurd (some≢none p.0 (sym l.0.named ∙ ap (led_to names) (bytes_eq_true p.1.name name t) ∙ e))
       one false t more = more
 
-  named_in : (name u : List ℕ) (ps : List (List ℕ × Entry V)) → AreListed names ps → led_to names name ≡ Some u → uuid_named name (listed ps) ≡ if_named name u (lookup (bytes_eq u) ps)
+  named_in : (name u : List ℕ) (ps : List (List ℕ × Entry V)) → AreListed names ps → led_to names name ≡ Some u → named name (listed ps) ≡ if_named name (lookup (bytes_eq u) ps)
+  unfolding named
   named_in name u [] l e = refl
   named_in name u (p ∷ ps) l e = one (bytes_eq u p.0) refl (named_in name u ps l.2 e)
     where
-      rest : Option (List ℕ)
-      rest = uuid_named name (listed ps)
+      rest : Option (meant.Entry V)
+      rest = named name (listed ps)
 
-      here : (b : Bool) (v : List ℕ) (r : Option (List ℕ)) → v ≡ u → r ≡ None → cond b (Some v) r ≡ cond b (Some u) None
-      here true v r same none = ap Some same
-      here false v r same none = none
-
-      one : (b : Bool) → bytes_eq u p.0 ≡ b → rest ≡ if_named name u (lookup (bytes_eq u) ps)
-          → cond (bytes_eq p.1.name name) (Some p.1.key.uuid) rest ≡ if_named name u (cond b (Some p.1) (lookup (bytes_eq u) ps))
+      one : (b : Bool) → bytes_eq u p.0 ≡ b → rest ≡ if_named name (lookup (bytes_eq u) ps)
+          → cond (bytes_eq p.1.name name) (Some (entry_of p.1)) rest ≡ if_named name (cond b (Some p.1) (lookup (bytes_eq u) ps))
       one true t more =
           let same : u ≡ p.0 = bytes_eq_true u p.0 t in
           let alone : lookup (bytes_eq u) ps ≡ None = none_there u ps l.2 (ap (λ (x : List ℕ). has_uuid x (listed ps)) same ∙ l.1) in
-          here (bytes_eq p.1.name name) p.1.key.uuid rest (l.0.keyed ∙ sym same) (more ∙ ap (if_named name u) alone)
+          ap (λ (r : Option (meant.Entry V)). cond (bytes_eq p.1.name name) (Some (entry_of p.1)) r) (more ∙ ap (if_named name) alone)
       one false t more = other (bytes_eq p.1.name name) refl
         where
-          other : (b : Bool) → bytes_eq p.1.name name ≡ b → cond b (Some p.1.key.uuid) rest ≡ if_named name u (lookup (bytes_eq u) ps)
+          other : (b : Bool) → bytes_eq p.1.name name ≡ b → cond b (Some (entry_of p.1)) rest ≡ if_named name (lookup (bytes_eq u) ps)
           other true n =
               let led : Some p.0 ≡ Some u = sym l.0.named ∙ ap (led_to names) (bytes_eq_true p.1.name name n) ∙ e in
               let same : p.0 ≡ u = cc in
@@ -210,10 +211,10 @@ module _ {A V : Type 0} (names : List (Vec ℕ A × List ℕ)) where
           other false n = more
 
   -- What a name finds, by the entry that its UUID finds.
-  pub named_by : (name u : List ℕ) (ps : List (List ℕ × Entry V)) → AreListed names ps → led_to names name ≡ Some u → uuid_named name (listed ps) ≡ of_name name u (of_uuid u (listed ps))
-  named_by name u ps l e = named_in name u ps l e ∙ same (lookup (bytes_eq u) ps) ∙ ap (of_name name u) (sym (of_uuid_in u ps l))
+  pub named_by : (name u : List ℕ) (ps : List (List ℕ × Entry V)) → AreListed names ps → led_to names name ≡ Some u → named name (listed ps) ≡ of_name name (of_uuid u (listed ps))
+  named_by name u ps l e = named_in name u ps l e ∙ same (lookup (bytes_eq u) ps) ∙ ap (of_name name) (sym (of_uuid_in u ps l))
     where
-      same : (o : Option (Entry V)) → if_named name u o ≡ of_name name u (option_map entry_of o)
+      same : (o : Option (Entry V)) → if_named name o ≡ of_name name (option_map entry_of o)
       same None = refl
       same (Some e) = refl
 
@@ -320,26 +321,31 @@ module _ {A V : Type 0} (names : List (Vec ℕ A × List ℕ)) where
           )
 
   -- The entry of a name is the one of its UUID.
-  pub same_gone : (name u : List ℕ) (ps : List (List ℕ × Entry V)) → AreListed names ps → uuid_named name (listed ps) ≡ Some u → without_name name (listed ps) ≡ without_uuid u (listed ps)
-  same_gone name u [] l e = refl
-  same_gone name u (p ∷ ps) l e = one (bytes_eq p.1.name name) refl e (same_gone name u ps l.2)
+  pub same_gone : (name : List ℕ) (ps : List (List ℕ × Entry V)) (found : meant.Entry V) → AreListed names ps → named name (listed ps) ≡ Some found → without_name name (listed ps) ≡ without_uuid found.key.uuid (listed ps)
+  unfolding named
+  same_gone name [] found l e = refl
+  same_gone name (p ∷ ps) found l e = one (bytes_eq p.1.name name) refl e (same_gone name ps found l.2)
     where
       es : List (meant.Entry V)
       es = listed ps
 
+      u : List ℕ
+      u = found.key.uuid
+
       two : Bool → Bool → Type 0
       two a b = cond (not a) (entry_of p.1 ∷ without_name name es) (without_name name es) ≡ cond (not b) (entry_of p.1 ∷ without_uuid u es) (without_uuid u es)
 
-      one : (b : Bool) → bytes_eq p.1.name name ≡ b → cond b (Some p.1.key.uuid) (uuid_named name es) ≡ Some u → (uuid_named name es ≡ Some u → without_name name es ≡ without_uuid u es) → two (bytes_eq p.1.name name) (bytes_eq p.1.key.uuid u)
+      one : (b : Bool) → bytes_eq p.1.name name ≡ b → cond b (Some (entry_of p.1)) (named name es) ≡ Some found → (named name es ≡ Some found → without_name name es ≡ without_uuid u es) → two (bytes_eq p.1.name name) (bytes_eq p.1.key.uuid u)
       one true t e more =
-          let same : p.1.key.uuid ≡ u = cc in
+          let here : entry_of p.1 ≡ found = some_same (entry_of p.1) found e in
+          let same : p.1.key.uuid ≡ u = ap (λ (x : meant.Entry V). x.key.uuid) here in
           let alone : has_uuid u es ≡ false = ap (λ (x : List ℕ). has_uuid x es) (sym same ∙ l.0.keyed) ∙ l.1 in
           let led : led_to names name ≡ Some u = ap (led_to names) (sym (bytes_eq_true p.1.name name t)) ∙ l.0.named ∙ ap Some (sym l.0.keyed ∙ same) in
           let a : bytes_eq p.1.key.uuid u ≡ true = ap (λ (x : List ℕ). bytes_eq x u) same ∙ bytes_eq_same u in
           subst (λ (b : Bool). two b (bytes_eq p.1.key.uuid u)) (sym t) (subst (λ (b : Bool). two true b) (sym a)
           (all_else name es (no_name name u ps l.2 led alone) ∙ sym (all_others u es alone)))
       one false t e more =
-          let there : has_uuid u es ≡ true = named_uuid name u es e in
+          let there : has_uuid u es ≡ true = uuid_of_named name es found e in
           let other : bytes_eq p.1.key.uuid u ≡ false = apart (bytes_eq p.1.key.uuid u) refl there in
           subst (λ (b : Bool). two b (bytes_eq p.1.key.uuid u)) (sym t) (subst (λ (b : Bool). two false b) (sym other) (ap (λ (r : List (meant.Entry V)). entry_of p.1 ∷ r) (more e)))
         where

@@ -1,17 +1,18 @@
 -- What the list of a catalogue has, by what its indexes find.
-use Rattle.std.proofs.Common.{◌≡◌, ℕ, zero, suc, slice_get, ◌==◌, false, List, [], ◌∷◌, ◌++◌, ◌+◌, Some, None, IsTrue, is_some, Vec, refl, sym, ap, subst, ◌∙◌}
+use Rattle.std.proofs.Common.{◌≡◌, ℕ, zero, suc, slice_get, ◌==◌, false, List, [], ◌∷◌, ◌++◌, ◌+◌, Some, None, Option, IfSome, IsTrue, is_some, Vec, refl, sym, ap, subst, ◌∙◌}
+use Rattle.std.specs.Borrow.{Bor}
 use Rattle.std.specs.BTreeMap.{insert_entry}
-use Rattle.std.specs.Map.{lookup, remove_entry}
+use Rattle.std.specs.Map.{lookup, remove_entry, set_value}
 use Rattle.std.specs.Option.{option_map}
 use Rattle.send_model.specs.Path.{is_name}
 use Rattle.send_model.specs.Store as meant
-use Rattle.send_model.specs.Store.{IsStore, has_name, has_uuid, find}
+use Rattle.send_model.specs.Store.{IsStore, has_name, has_uuid, find, with_contents}
 use Rattle.subvol_catalog.specs.declared.entry.Entry.{Entry}
-use Rattle.subvol_catalog.specs.Entries.{entry_of, listed, of_uuid, AreNamed}
-use Rattle.subvol_catalog.specs.Admission.{uuid_named, without_name, without_uuid}
+use Rattle.subvol_catalog.specs.Entries.{entry_of, listed, of_uuid, named, AreNamed}
+use Rattle.subvol_catalog.specs.Admission.{without_name, without_uuid}
 use Rattle.subvol_catalog.specs.Indexes.{led_to, number_led_to, numbered, AreListed, AreFound, under_uuids}
-use Rattle.subvol_catalog.proofs.Pairs.{some≢none, some_same, uuid_finds, of_uuid_in, found_by, of_key, none_named, named_by, of_name, is_store, are_named, same_gone, left_over, at_uuid, no_name, kept, one_more}
-use Rattle.subvol_catalog.proofs.Numbers.{seen, under_more, without_number, through_number, gone_under, numbers_left, numbers_kept, numbers_more}
+use Rattle.subvol_catalog.proofs.Pairs.{some≢none, some_same, uuid_finds, of_uuid_in, found_by, of_key, none_named, named_by, of_name, is_store, are_named, same_gone, value_set, left_over, at_uuid, no_name, kept, one_more}
+use Rattle.subvol_catalog.proofs.Numbers.{seen, under_more, without_number, number_known, through_number, value_under, gone_under, numbers_left, numbers_kept, numbers_more}
 use Rattle.subvol_catalog.proofs.OrderedRows.{by_bytes, at, put_apart, taken_apart}
 
 module _ {A V : Type 0} (names : List (Vec ℕ A × List ℕ)) (uuids : List (List ℕ × ℕ)) (next : ℕ) (es : List (ℕ × Entry V)) (found : AreFound names uuids next es) where
@@ -33,11 +34,11 @@ module _ {A V : Type 0} (names : List (Vec ℕ A × List ℕ)) (uuids : List (Li
   pub key_finds : (key : meant.Key) → find (listed es) key ≡ of_key key (of_uuid key.uuid (listed es))
   key_finds key = subst (λ (r : List (meant.Entry V)). find r key ≡ of_key key (of_uuid key.uuid r)) (seen es) (found_by names key (under_uuids es) found.by_name)
 
-  pub unnamed : (name : List ℕ) → led_to names name ≡ None → uuid_named name (listed es) ≡ None
-  unnamed name e = subst (λ (r : List (meant.Entry V)). uuid_named name r ≡ None) (seen es) (none_named names name (under_uuids es) found.by_name e)
+  pub unnamed : (name : List ℕ) → led_to names name ≡ None → named name (listed es) ≡ None
+  unnamed name e = subst (λ (r : List (meant.Entry V)). named name r ≡ None) (seen es) (none_named names name (under_uuids es) found.by_name e)
 
-  pub name_finds : (name u : List ℕ) → led_to names name ≡ Some u → uuid_named name (listed es) ≡ of_name name u (of_uuid u (listed es))
-  name_finds name u e = subst (λ (r : List (meant.Entry V)). uuid_named name r ≡ of_name name u (of_uuid u r)) (seen es) (named_by names name u (under_uuids es) found.by_name e)
+  pub name_finds : (name u : List ℕ) → led_to names name ≡ Some u → named name (listed es) ≡ of_name name (of_uuid u (listed es))
+  name_finds name u e = subst (λ (r : List (meant.Entry V)). named name r ≡ of_name name (of_uuid u r)) (seen es) (named_by names name u (under_uuids es) found.by_name e)
 
   pub stand_apart : IsStore (listed es)
   stand_apart = subst (λ (r : List (meant.Entry V)). IsStore r) (seen es) (is_store names (under_uuids es) found.by_name)
@@ -45,11 +46,26 @@ module _ {A V : Type 0} (names : List (Vec ℕ A × List ℕ)) (uuids : List (Li
   pub have_names : AreNamed (listed es)
   have_names = subst (λ (r : List (meant.Entry V)). AreNamed r) (seen es) (are_named names (under_uuids es) found.by_name)
 
-  -- Taking out a name is taking out its UUID.
-  pub name_goes : (name u : List ℕ) → uuid_named name (listed es) ≡ Some u → without_name name (listed es) ≡ without_uuid u (listed es)
-  name_goes name u e =
-      subst (λ (r : List (meant.Entry V)). without_name name r ≡ without_uuid u r) (seen es)
-      (same_gone names name u (under_uuids es) found.by_name (ap (λ (r : List (meant.Entry V)). uuid_named name r) (seen es) ∙ e))
+  -- Taking out a name is taking out the UUID of its entry.
+  pub name_goes : (name : List ℕ) (e : meant.Entry V) → named name (listed es) ≡ Some e → without_name name (listed es) ≡ without_uuid e.key.uuid (listed es)
+  name_goes name e is =
+      subst (λ (r : List (meant.Entry V)). without_name name r ≡ without_uuid e.key.uuid r) (seen es)
+      (same_gone names name (under_uuids es) e found.by_name (ap (λ (r : List (meant.Entry V)). named name r) (seen es) ∙ is))
+
+  -- ---- a value that comes
+
+  -- What is there once the entry of a UUID's number took its value.
+  pub value_takes : (u : List ℕ) (n : ℕ) (v : V) (new : List (ℕ × Entry V)) → numbered uuids es u ≡ Some n → IfSome (lookup (λ k. n == k) es) (λ e. new ≡ set_value (λ k. n == k) es (record e { value = Some v }))
+      → (listed new ≡ with_contents u v (listed es)) × AreFound names uuids next new
+  value_takes u n v new is sets =
+      let known = number_known uuids next u n es is in
+      let e = known.entry in
+      let became : new ≡ set_value (λ k. n == k) es (record e { value = Some v }) = rw known.at at sets in
+      let under = value_under uuids next u n (record e { value = Some v }) e es found.by_uuid is known.at refl in
+      let set = value_set names u v (under_uuids es) e found.by_name (through_number uuids next u n es found.by_uuid is ∙ known.at) in (
+        ap listed became ∙ sym (seen _) ∙ ap listed under.0 ∙ set.0 ∙ ap (with_contents u v) (seen es),
+        subst (AreFound names uuids next) (sym became) (record { by_name = subst (AreListed names) (sym under.0) set.2; by_uuid = under.1 }),
+      )
 
   -- ---- an entry less
 
@@ -97,8 +113,12 @@ module _ {A V : Type 0} (names : List (Vec ℕ A × List ℕ)) (uuids : List (Li
     by_uuid = numbers_more uuids next e es found.by_uuid led;
   }
 
--- The name of an entry is lawful.
-pub named_at : {A V : Type 0} (names : List (Vec ℕ A × List ℕ)) (i : ℕ) (es : List (ℕ × Entry V)) (n : ℕ) (e : Entry V) → AreListed names (under_uuids es) → slice_get es i ≡ Some (n, e) → IsTrue (is_name e.name)
-named_at {A} {V} names i [] n e l f = absurd (some≢none (n, e) (sym f))
-named_at {A} {V} names zero (p ∷ es) n e l f = let same : p ≡ (n, e) = some_same p (n, e) f in subst (λ (x : ℕ × Entry V). IsTrue (is_name x.1.name)) same l.0.lawful
-named_at {A} {V} names (suc i) (p ∷ es) n e l f = named_at names i es n e l.2 f
+-- The name of an entry at a place is lawful.
+lawful_at : {S : Type 0} (entries : List (meant.Entry S)) (i : ℕ) (e : meant.Entry S) → AreNamed entries → slice_get entries i ≡ Some e → IsTrue (is_name e.name)
+lawful_at [] i e all at = absurd (some≢none e (sym at))
+lawful_at {S} (x ∷ entries) zero e all at = subst (λ (y : meant.Entry S). IsTrue (is_name y.name)) (some_same x e at) all.0
+lawful_at (x ∷ entries) (suc i) e all at = lawful_at entries i e all.1 at
+
+pub named_at : {V : Type 0} (entries : List (meant.Entry V)) (i : ℕ) (found : Option (Bor (Entry V))) → AreNamed entries → option_map (λ e. entry_of e.now) found ≡ slice_get entries i → IfSome found (λ e. IsTrue (is_name e.now.name))
+named_at entries i None all at = tt
+named_at entries i (Some e) all at = lawful_at entries i (entry_of e.now) all (sym at)

@@ -1,5 +1,6 @@
--- When an entry may be added to some entries, what is then there, and what is there without an entry.
-use Rattle.std.specs.Prelude.{◌≡◌, ℕ, not, List, [], ◌∷◌, ◌++◌, Option, None, Some, Result, Ok, Err, if◌then◌else◌}
+-- When an entry may be added to some entries, what is then there, and what is there without an
+-- entry.
+use Rattle.std.specs.Prelude.{◌≡◌, ℕ, not, List, [], ◌∷◌, ◌++◌, Option, None, Some, Result, Ok, Err}
 use Rattle.std.specs.List.{filter}
 use Rattle.std.specs.Str.{bytes_eq}
 use Rattle.send_model.specs.Refusal.{Refusal, BadName, NameThere, UuidThere, NoParent}
@@ -9,11 +10,6 @@ use Rattle.send_model.specs.Store.{Key, Head, Entry, has_name, has_uuid, find}
 use Rattle.sx_base.specs.Refusals.{refusal_of}
 use Rattle.sx_base.specs.declared.stop.Stop.{Stop}
 use Rattle.sx_base.specs.declared.stop.Stop.TheVariants as stop
-
--- The UUID of the first entry that has a name.
-abbrev pub uuid_named : {S : Type 0} → List ℕ → List (Entry S) → Option (List ℕ)
-uuid_named name [] = None
-uuid_named name (e ∷ entries) = if bytes_eq e.name name then Some e.key.uuid else uuid_named name entries
 
 -- An entry of this name and UUID may be added: a bad name, a name or a UUID that is there.
 unfoldable pub is_new : {S : Type 0} → List (Entry S) → List ℕ → List ℕ → Result (Unit {0}) Refusal
@@ -31,9 +27,10 @@ has_parent entries (Some parent) = found (find entries parent) NoParent >>= λ s
 unfoldable pub admitted : {S : Type 0} → List (Entry S) → Head → Result (Unit {0}) Refusal
 admitted entries head = is_new entries head.name head.key.uuid >> has_parent entries head.parent
 
--- An entry was added behind the others where it may be, or it may not and nothing changed, or there was no memory and
--- nothing changed.
-abbrev pub Adds : {S : Type 0} → Result (Unit {0}) Stop → Result (Unit {0}) Refusal → Entry S → List (Entry S) → List (Entry S) → Type 0
+-- An entry was added behind the others where it may be, or it may not and nothing changed, or there
+-- was no memory and nothing changed.
+abbrev pub Adds : {S : Type 0} → Result (Unit {0}) Stop → Result (Unit {0}) Refusal → Entry S
+    → List (Entry S) → List (Entry S) → Type 0
 Adds (Ok done) due entry old new = (due ≡ Ok tt) × (new ≡ old ++ entry ∷ [])
 Adds (Err (stop.Refused refusal)) due entry old new = (due ≡ Err (refusal_of refusal)) × (new ≡ old)
 Adds (Err stop.NoMemory) due entry old new = new ≡ old

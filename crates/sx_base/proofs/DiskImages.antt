@@ -72,7 +72,8 @@ image_front front pending image stable is =
     let s = agrees_front front stable.others image (subst (λ (known : List (Option ℕ)). Agrees known image) stable.known is.known) in
     record { rest = s.rest; split = s.split; agrees = tt }
 
--- after a write of one byte into bytes that were all known, an image has some byte there and is else as before
+-- after a write of one byte into bytes that were all known, an image has some byte there and is
+-- else as before
 pub record IsAnyByteAt (front : List ℕ) (rest image : List ℕ) : Type 0 where
   pub byte : ℕ
   pub split : image ≡ front ++ byte ∷ rest

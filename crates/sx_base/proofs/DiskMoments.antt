@@ -39,8 +39,8 @@ weakens run follows = record {
   earlier = λ t image le left. ⊎_elim (λ had. inl had) (λ has. inr (follows image has)) (run.earlier t image le left);
 }
 
--- Where since the start of a run each image had P, each that a crash may leave now has P. That this moment is one of those
--- since the start is what a disk says by `counts_now`.
+-- Where since the start of a run each image had P, each that a crash may leave now has P. That this
+-- moment is one of those since the start is what a disk says by `counts_now`.
 pub leaves_now : {D : Type 0} {moment : D → ℕ} {left_since : D → ℕ → List ℕ → Type 0} {old new : D} {P : List ℕ → Type 0} (pending : D → Pending)
     → LeavesOnly moment left_since old new P → ((image : List ℕ) → moment old ≤ moment new → IsImage (pending new) image → left_since new (moment old) image) → (image : List ℕ) → IsImage (pending new) image → P image
 leaves_now pending run counts image is = run.each image (counts image run.later is)

@@ -1,5 +1,5 @@
--- Worked examples of the escaped form: a target with a blank, a backslash, bytes outside ASCII, and both ends
--- of the bytes that stand for themselves.
+-- Worked examples of the escaped form: a target with a blank, a backslash, bytes outside ASCII, and
+-- both ends of the bytes that stand for themselves.
 use Rattle.std.proofs.Common.{◌≡◌, [], ◌∷◌, refl}
 use Rattle.std.specs.Prelude.{codes}
 use Rattle.send_model.specs.Printed.{escaped, escaped_byte, is_plain, hex_digit}

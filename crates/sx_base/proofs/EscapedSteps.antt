@@ -1,9 +1,10 @@
 -- The escaped form of the bytes that are left, as a loop goes over them.
-use Rattle.std.proofs.Common.{◌≡◌, ℕ, ◌+◌, ◌-◌, ◌/◌, ◌%◌, ◌<◌, ◌≤◌, List, [], ◌∷◌, ◌++◌, length, take, drop, Bool, true, if◌then◌else◌, ap, sym, ◌∙◌, add-one, arith, append_assoc, append-nil, drop-cons, drop-drop}
+use Rattle.std.proofs.Common.{◌≡◌, ℕ, ◌+◌, ◌-◌, ◌*◌, ◌/◌, ◌%◌, ◌<◌, ◌≤◌, List, [], ◌∷◌, ◌++◌, length, take, drop, Bool, true, if◌then◌else◌, ap, ap₂, sym, ◌∙◌, add-one, arith, append_assoc, append-nil, drop-cons, drop-drop}
 use Rattle.std.proofs.Math.Seq.{take-add}
-use Rattle.std.proofs.lemmas.List.{drop_all}
+use Rattle.std.proofs.lemmas.List.{drop_all, length-drop, length-take-le}
+use Rattle.std.proofs.lemmas.Grind.{flat_map-append}
 use Rattle.std.specs.Prelude.{slice_index_or}
-use Rattle.send_model.specs.Printed.{escaped, escaped_byte, is_plain, hex_digit}
+use Rattle.send_model.specs.Printed.{escaped, escaped_byte, is_plain, hex_digit, hex_byte, hex_bytes}
 
 pub escaped_step : (to bytes : List ℕ) (i d : ℕ) → i < length bytes
     → (to ++ escaped_byte (slice_index_or bytes i d)) ++ escaped (drop (i + 1) bytes) ≡ to ++ escaped (drop i bytes)
@@ -16,7 +17,8 @@ pub escaped_end : (to bytes : List ℕ) (i : ℕ) → length bytes ≤ i → to 
 unfolding escaped
 escaped_end to bytes i past = ap (λ (l : List ℕ). to ++ escaped l) (drop_all i bytes past) ∙ append-nil to
 
--- the run of bytes that stand for themselves, from a place on, and the escaped form of what comes after it
+-- the run of bytes that stand for themselves, from a place on, and the escaped form of what comes
+-- after it
 abbrev pub run_and_rest : List ℕ → ℕ → ℕ → List ℕ
 run_and_rest bytes from at = take (at - from) (drop from bytes) ++ escaped (drop at bytes)
 
@@ -64,3 +66,16 @@ pub run_at_end : (to bytes : List ℕ) (from at : ℕ) → length bytes ≤ at
 run_at_end to bytes from at past =
     let run = take (at - from) (drop from bytes) in
     ap (λ (l : List ℕ). to ++ l) (sym (escaped_end run bytes at past))
+
+-- the digits of one more piece
+pub digits_step : (to now after bytes digits : List ℕ) (at upto : ℕ) → at ≤ upto → upto ≤ length bytes → now ≡ to ++ hex_bytes (take at bytes)
+    → take (2 * length (take (upto - at) (drop at bytes))) digits ≡ hex_bytes (take (upto - at) (drop at bytes))
+    → after ≡ now ++ take (2 * length (take (upto - at) (drop at bytes))) digits
+    → after ≡ to ++ hex_bytes (take (at + length (take (upto - at) (drop at bytes))) bytes)
+digits_step to now after bytes digits at upto from within so filled is =
+    let piece : List ℕ = take (upto - at) (drop at bytes) in
+    let few : upto - at ≤ length (drop at bytes) = omega (arith, length-drop at bytes, from, within) in
+    let count : length piece ≡ upto - at = length-take-le (upto - at) (drop at bytes) few in
+    let parts : take (at + length piece) bytes ≡ take at bytes ++ piece = take-add at (length piece) bytes ∙ ap (λ (n : ℕ). take at bytes ++ take n (drop at bytes)) count in
+    is ∙ ap₂ (λ (a b : List ℕ). a ++ b) so filled ∙ append_assoc to (hex_bytes (take at bytes)) (hex_bytes piece)
+    ∙ ap (λ (l : List ℕ). to ++ l) (sym (ap hex_bytes parts ∙ flat_map-append hex_byte (take at bytes) piece))

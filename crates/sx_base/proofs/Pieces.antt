@@ -1,4 +1,5 @@
--- A sink that took the first bytes of a piece, and then some of the rest, took so many more of the piece.
+-- A sink that took the first bytes of a piece, and then some of the rest, took so many more of the
+-- piece.
 use Rattle.std.proofs.Common.{◌≡◌, ℕ, ◌+◌, ◌≤◌, List, ◌++◌, take, drop, ap, sym, ◌∙◌, subst}
 use Rattle.std.proofs.KnownBytes.{Appends-trans}
 use Rattle.std.proofs.Math.Seq.{take-add}

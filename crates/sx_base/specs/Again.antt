@@ -1,5 +1,5 @@
--- Bytes of a file that were read before and are read again. That an input may have changed between two reads, and the
--- count of such ends, are this program's own.
+-- Bytes of a file that were read before and are read again. That an input may have changed between
+-- two reads, and the count of such ends, are this program's own.
 use Rattle.std.specs.Prelude.{◌≡◌, ℕ, ◌+◌, ◌<◌, ◌≤◌, List, [], length, take, drop, None, Some, Result, Ok, Err, ⊤}
 use Rattle.std.specs.declared.option.Option.{Option}
 use Rattle.sx_base.specs.Causes.{Rose, Counts}
@@ -17,8 +17,8 @@ abbrev pub FillsFrom : Option (List (List ℕ × List ℕ)) → List ℕ → ℕ
 FillsFrom None name at buf = ⊤
 FillsFrom (Some files) name at buf = buf ≡ take (length buf) (drop at (file_at files name))
 
--- The count of ends never falls. Files that the inputs tell do not change, so they have no end too early, and the
--- count of ends stays.
+-- The count of ends never falls. Files that the inputs tell do not change, so they have no end too
+-- early, and the count of ends stays.
 abbrev pub EndsKept : Option (List (List ℕ × List ℕ)) → ℕ → ℕ → Type 0
 EndsKept None before now = before ≤ now
 EndsKept (Some files) before now = now ≡ before

@@ -21,8 +21,8 @@ Gives view (Ok x) said = said ≡ Ok (view x)
 Gives view (Err (stop.Refused refusal)) said = said ≡ Err (refusal_of refusal)
 Gives view (Err stop.NoMemory) said = Unit {0}
 
--- The old value becomes the one that is said, or the call refuses by the same refusal and changes nothing. Where there is no memory
--- nothing is said of the value.
+-- The old value becomes the one that is said, or the call refuses by the same refusal and changes
+-- nothing. Where there is no memory nothing is said of the value.
 abbrev pub MayChange : {A S : Type 0} → Result A Stop → S → S → Result S meant.Refusal → Type 0
 MayChange (Ok _) old new said = said ≡ Ok new
 MayChange (Err (stop.Refused refusal)) old new said = (said ≡ Err (refusal_of refusal)) × (new ≡ old)

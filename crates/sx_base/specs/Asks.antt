@@ -1,5 +1,5 @@
--- What is asked of named files: which file, from which place on, and for how many bytes; and what it means that files are read once, twice
--- or in turn. This program's own.
+-- What is asked of named files: which file, from which place on, and for how many bytes; and what
+-- it means that files are read once, twice or in turn. This program's own.
 use Rattle.std.specs.Prelude.{◌≡◌, ⊤, ℕ, ◌+◌, ◌<◌, ◌≤◌, Bool, false, true, not, List, [], ◌∷◌, ◌++◌, length, get_or, set, Option, None, Some, Result, Ok, Err}
 use Rattle.std.specs.List.{AllByRecursion, filter}
 use Rattle.send_model.specs.Reading.{Item, reads}
@@ -7,8 +7,8 @@ use Rattle.send_model.specs.Receive.{bytes_of}
 use Rattle.sx_base.specs.Again.{LiesIn}
 use Rattle.sx_base.specs.Outside.{file_at}
 
--- A call: the name of the file, the place, how many bytes came of those that had not been read, or were asked for of those that had, and
--- which of both it was.
+-- A call: the name of the file, the place, how many bytes came of those that had not been read, or
+-- were asked for of those that had, and which of both it was.
 pub record Ask : Type 0 where
   pub name : List ℕ
   pub place : ℕ

@@ -1,5 +1,5 @@
--- What a call over named files answers: which files these are, what it wrote, when it may say that an object of the outside
--- failed, and what each answer says of the files. This program's own.
+-- What a call over named files answers: which files these are, what it wrote, when it may say that
+-- an object of the outside failed, and what each answer says of the files. This program's own.
 use Rattle.std.specs.Prelude.{◌≡◌, ⊤, ℕ, ◌-◌, ◌≤◌, List, [], map, length, get_or, Option, None, Some, Result, Ok, Err}
 use Rattle.std.specs.Io.KnownBytes.{Appends}
 use Rattle.send_model.specs.Store.{Store}
@@ -29,8 +29,8 @@ Wrote old new P = (written : List ℕ) × Appends old new written × P written
 
 -- ---- causes
 
--- A fault is the outcome only where the count of its object rose. A call that reads no byte twice, and composes nothing, finds no
--- input changed and never too much to write.
+-- A fault is the outcome only where the count of its object rose. A call that reads no byte twice,
+-- and composes nothing, finds no input changed and never too much to write.
 abbrev pub Caused : (inputs_before inputs_now out_before out_now : ℕ) → Outcome → Type 0
 Caused inputs_before inputs_now out_before out_now ended.InputFault = Rose inputs_before inputs_now
 Caused inputs_before inputs_now out_before out_now ended.OutputFault = Rose out_before out_now
@@ -41,7 +41,8 @@ Caused inputs_before inputs_now out_before out_now (ended.InputTooLong file) = �
 Caused inputs_before inputs_now out_before out_now (ended.TooMuch sum) = ⊥
 Caused inputs_before inputs_now out_before out_now (ended.InputChanged file place) = ⊥
 
--- The same of a call that reads bytes again: an input is found changed only where the count of ends rose.
+-- The same of a call that reads bytes again: an input is found changed only where the count of ends
+-- rose.
 abbrev pub CausedAgain : (before now : Counts) → Outcome → Type 0
 CausedAgain before now (ended.InputChanged file place) = Rose before.ends now.ends
 CausedAgain before now ended.InputFault = Rose before.reads now.reads
@@ -82,7 +83,8 @@ SteadyIfDone before now (ended.InputChanged file place) = ⊤
 
 -- ---- files that were changed
 
--- The end that the inputs answered last is that of the file with this number among these names, counted from 1, at this place.
+-- The end that the inputs answered last is that of the file with this number among these names,
+-- counted from 1, at this place.
 pub record IsEndOf (names : List (List ℕ)) (last : EarlyEnd) (file place : ℕ) : Type 0 where
   pub first : 1 ≤ file
   pub within : file ≤ length names
@@ -105,8 +107,9 @@ ErrFoundChanged names last (Err outcome) = FoundChanged names last outcome
 
 -- ---- the one answer
 
--- An outcome that the files decide is the one answer that is due, and what was written stands as it says. Where the inputs
--- failed or were changed, or there was no memory, what was written stands as before an end, and where the output failed, it is cut.
+-- An outcome that the files decide is the one answer that is due, and what was written stands as it
+-- says. Where the inputs failed or were changed, or there was no memory, what was written stands as
+-- before an end, and where the output failed, it is cut.
 abbrev pub EndsAs : Due → (stands : Due → List ℕ → Type 0) (before cut : List ℕ → Type 0) → Outcome → List ℕ → Type 0
 EndsAs the_due stands before cut ended.Done written = (the_due ≡ DoneWhole) × stands DoneWhole written
 EndsAs the_due stands before cut (ended.Refused verdict) written = (the_due ≡ RefusedAt (verdict_meant verdict)) × stands (RefusedAt (verdict_meant verdict)) written

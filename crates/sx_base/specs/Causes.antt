@@ -1,5 +1,6 @@
--- When an object of the outside may say that it failed: a count of its faults never falls, and it answers
--- Failed only where this count rose in the call. A count that stands at the greatest u64 counts as risen.
+-- When an object of the outside may say that it failed: a count of its faults never falls, and it
+-- answers Failed only where this count rose in the call. A count that stands at the greatest u64
+-- counts as risen.
 use Rattle.std.specs.Prelude.{◌≡◌, ℕ, ◌+◌, ◌-◌, ◌^◌, ◌≤◌, min, Result, OnOk, OnErr}
 
 abbrev pub Rose : ℕ → ℕ → Type 0
@@ -10,7 +11,8 @@ pub record HasCause {T E : Type 0} (before now : ℕ) (result : Result T E) : Ty
   pub later : before ≤ now
   pub failed : OnErr result (Rose before now)
 
--- A call that did what it was asked leaves a count as it was: no object may fail in it, and be asked again.
+-- A call that did what it was asked leaves a count as it was: no object may fail in it, and be
+-- asked again.
 abbrev pub Steady : {T E : Type 0} → ℕ → ℕ → Result T E → Type 0
 Steady before now result = OnOk result (now ≡ before)
 

@@ -1,5 +1,5 @@
--- What calls leave of the objects outside that they read and write: no count falls, and where all was done that was asked, none has risen.
--- This program's own.
+-- What calls leave of the objects outside that they read and write: no count falls, and where all
+-- was done that was asked, none has risen. This program's own.
 use Rattle.std.specs.Prelude.{◌≡◌, ℕ, ◌≤◌, List, ◌++◌, Result}
 use Rattle.sx_base.specs.Asks.{Ask, IsReadOn}
 use Rattle.sx_base.specs.Causes.{Steady}
@@ -30,8 +30,8 @@ pub record OutputLater {O T E : Type 0} (out : writing.Ghosts O) (old new : O) (
   pub later : out.faults old ≤ out.faults new
   pub steady : Steady (out.faults old) (out.faults new) result
 
--- A disk that is only read is as long as before. Where it tells, it gives and has pending what it did, and at each moment of the call a
--- crash leaves an image that one might have left before.
+-- A disk that is only read is as long as before. Where it tells, it gives and has pending what it
+-- did, and at each moment of the call a crash leaves an image that one might have left before.
 pub record DiskLater {D T E : Type 0} (disk : keeping.Ghosts D) (old new : D) (result : Result T E) : Type 0 where
   pub len : disk.len new ≡ disk.len old
   pub same : disk.tells → IsAsBefore disk.seen disk.pending old new

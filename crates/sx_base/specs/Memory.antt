@@ -10,15 +10,16 @@ next_count n = min (n + 1) (2 ^ 64 - 1)
 abbrev pub is_listed : List ℕ → ℕ → Bool
 is_listed failing call = list_any (λ n. n == call) failing
 
--- Inputs in memory: their files, the numbers of the calls that are to fail, and how many calls and faults there were.
+-- Inputs in memory: their files, the numbers of the calls that are to fail, and how many calls and
+-- faults there were.
 pub record Files : Type 0 where
   pub files : List (List ℕ × List ℕ)
   pub failing : List ℕ
   pub calls : ℕ
   pub faults : ℕ
 
--- A sink in memory: the bytes that it took, the numbers of the calls that are to fail, and how many calls,
--- calls without memory, and faults there were.
+-- A sink in memory: the bytes that it took, the numbers of the calls that are to fail, and how many
+-- calls, calls without memory, and faults there were.
 pub record Taken : Type 0 where
   pub bytes : List ℕ
   pub failing : List ℕ

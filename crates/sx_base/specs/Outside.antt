@@ -3,14 +3,14 @@ use Rattle.std.specs.Prelude.{◌≡◌, ℕ, ◌-◌, ◌<◌, ◌≤◌, List,
 use Rattle.std.specs.declared.option.Option.{Option}
 use Rattle.std.specs.Io.KnownBytes.{Appends}
 
--- Files are a finite map from names to bytes: a list of pairs, in which the first pair of a name counts.
--- A name that is not there is an empty file.
+-- Files are a finite map from names to bytes: a list of pairs, in which the first pair of a name
+-- counts. A name that is not there is an empty file.
 unfoldable pub file_at : List (List ℕ × List ℕ) → List ℕ → List ℕ
 file_at [] name = []
 file_at (file ∷ rest) name = if bytes_eq file.0 name then file.1 else file_at rest name
 
--- The first count bytes of a buffer are those of a file from the place at on. There are none only where the
--- buffer is empty or the file ends.
+-- The first count bytes of a buffer are those of a file from the place at on. There are none only
+-- where the buffer is empty or the file ends.
 pub record IsPieceAt (file : List ℕ) (at : ℕ) (buf : List ℕ) (count : ℕ) : Type 0 where
   pub bytes : take count buf ≡ take count (drop at file)
   pub within : count ≤ length file - at

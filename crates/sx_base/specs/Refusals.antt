@@ -1,4 +1,5 @@
--- The refusals of the code as those of the definitions, each with the values that it keeps; and so its verdicts.
+-- The refusals of the code as those of the definitions, each with the values that it keeps; and so
+-- its verdicts.
 use Rattle.send_model.specs.Refusal as meant
 use Rattle.send_model.specs.Reading as reading
 use Rattle.sx_base.specs.declared.refusal.Refusal.{Refusal}
@@ -42,6 +43,7 @@ refusal_of (made.Guarded guard used) = meant.Guarded guard used
 refusal_of (made.BadFallocate mode) = meant.BadFallocate mode
 refusal_of made.NotConsecutive = meant.NotConsecutive
 refusal_of (made.NotBuilt kept) = meant.NotBuilt kept
+refusal_of made.BadText = meant.BadText
 refusal_of made.NoNumber = meant.NoNumber
 
 -- A verdict of the code as that of the definitions.

@@ -6,10 +6,11 @@ ghost use Rattle.sx_base.specs.Causes.{Steady};
 
 use crate::Failed;
 
-/// A disk: bytes that are read and written at places counted in bytes, and that a crash may leave torn.
+/// A disk: bytes that are read and written at places counted in bytes, and that a crash may leave
+/// torn.
 pub trait Disk {
-    /// Holds where the disk tells what it contains. One that does not, as a real file, says only what no clause
-    /// puts under this premise.
+    /// Holds where the disk tells what it contains. One that does not, as a real file, says only
+    /// what no clause puts under this premise.
     ghost tells: { Type 0 };
 
     /// What a read gives: all the bytes.
@@ -24,7 +25,8 @@ pub trait Disk {
     /// The clock.
     ghost moment: { Self → ℕ };
 
-    /// Which images a crash at some moment from that one on may have left, during a call or between two.
+    /// Which images a crash at some moment from that one on may have left, during a call or between
+    /// two.
     ghost left_since: { Self → ℕ → List ℕ → Type 0 };
 
     /// How often the disk has failed.
@@ -39,8 +41,8 @@ pub trait Disk {
             self.old self.new result }
         ensures steady { Steady (faults self.old) (faults self.new) result };
 
-    /// Reads from place `at` into the buffer, and says how many bytes: at most as many as it has room for, and 0
-    /// only for an empty buffer or where `at` is not below the size.
+    /// Reads from place `at` into the buffer, and says how many bytes: at most as many as it has
+    /// room for, and 0 only for an empty buffer or where `at` is not below the size.
     fn read(&mut self, at: u64, buf: &mut [u8]) -> Result<usize, Failed>
         ensures bound { IfOk result (λ count. count ≤ length buf.new) }
         ensures progress { IfOk result
@@ -52,8 +54,8 @@ pub trait Disk {
             self.old self.new result }
         ensures steady { Steady (faults self.old) (faults self.new) result };
 
-    /// Puts the piece at place `at`, over what is there and past the end. A write that failed counts as written:
-    /// until the next successful sync a crash may leave any bytes in its range.
+    /// Puts the piece at place `at`, over what is there and past the end. A write that failed
+    /// counts as written: until the next successful sync a crash may leave any bytes in its range.
     fn write_at(&mut self, at: u64, piece: &[u8]) -> Result<(), Failed>
         requires place { at ≤ len self.old }
         requires room { at + length piece.now < 2 ^ 63 }
@@ -79,7 +81,8 @@ pub trait Disk {
             self.old self.new result }
         ensures steady { Steady (faults self.old) (faults self.new) result };
 
-    /// Makes stable what was written: a crash then leaves what a read gives. A sync that failed changes nothing.
+    /// Makes stable what was written: a crash then leaves what a read gives. A sync that failed
+    /// changes nothing.
     fn sync(&mut self) -> Result<(), Failed>
         ensures len { len self.new ≡ len self.old }
         ensures seen { tells → seen self.new ≡ seen self.old }

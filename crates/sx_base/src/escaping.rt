@@ -1,13 +1,17 @@
 // The escaped form of bytes.
-ghost use Rattle.std.specs.Prelude.{◌≡◌, ℕ, ◌<◌, ◌++◌, OnOk, OnErr, false};
+ghost use Rattle.std.specs.Prelude.{◌≡◌, ℕ, ◌*◌, ◌<◌, ◌≤◌, ◌++◌, length, take, OnOk, OnErr, false};
 ghost use Rattle.sx_base.specs.Bytes.{IsFront};
 ghost use Rattle.send_model.specs.Printed.{is_plain, hex_digit, hex_bytes, escaped_byte, escaped};
 
 use crate::blob::Blob;
 use std::alloc::AllocError;
 
-/// Appends the escaped form of the bytes, or changes nothing where there is no memory. Visible characters of
-/// ASCII but the backslash stand for themselves; every other byte is `\x` and two lower hexadecimal digits.
+// How many bytes are made digits at once.
+const PIECE: usize = 64;
+
+/// Appends the escaped form of the bytes, or changes nothing where there is no memory. Visible
+/// characters of ASCII but the backslash stand for themselves; every other byte is `\x` and two
+/// lower hexadecimal digits.
 pub fn escape_into(bytes: &[u8], to: &mut Blob) -> Result<(), AllocError>
     ensures appended { OnOk result (to.new ≡ to.old ++ escaped bytes.now) }
     ensures same { OnErr result (to.new ≡ to.old) }
@@ -38,14 +42,31 @@ fn push_all_digits(bytes: &[u8], to: &mut Blob) -> Result<(), AllocError>
     ensures appended { OnOk result (to.new ≡ to.old ++ hex_bytes bytes.now) }
     ensures kept { IsFront to.old to.new }
 {
-    for place in 0..bytes.len() {
-        let byte = bytes[place];
-        to.push_all(&[digit(byte / 16), digit(byte % 16)])?;
+    let mut digits = [0; 2 * PIECE];
+    let mut at = 0;
+    while at < bytes.len() {
+        let piece = &bytes[at..(at + PIECE).min(bytes.len())];
+        fill_digits(piece, &mut digits);
+        to.push_all(&digits[..2 * piece.len()])?;
+        at += piece.len();
     }
     Ok(())
 }
 
-// Bytes that stand for themselves are pushed in whole runs. Without memory some of the form may be there.
+// Puts the digits of the bytes into the front of the buffer.
+fn fill_digits(bytes: &[u8], digits: &mut [u8; 128])
+    requires few { length bytes.now ≤ 64 }
+    ensures filled { take (2 * length bytes.now) digits.new ≡ hex_bytes bytes.now }
+{
+    for place in 0..bytes.len() {
+        let byte = bytes[place];
+        digits[2 * place] = digit(byte / 16);
+        digits[2 * place + 1] = digit(byte % 16);
+    }
+}
+
+// Bytes that stand for themselves are pushed in whole runs. Without memory some of the form may be
+// there.
 fn push_all_escaped(bytes: &[u8], to: &mut Blob) -> Result<(), AllocError>
     ensures appended { OnOk result (to.new ≡ to.old ++ escaped bytes.now) }
     ensures kept { IsFront to.old to.new }

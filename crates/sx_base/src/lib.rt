@@ -1,5 +1,5 @@
-//! What every crate of btrsend stands on: the traits of the outside with their answers and their objects in
-//! memory, bytes that grow, and the answers that a run ends with.
+//! What every crate of btrsend stands on: the traits of the outside with their answers and their
+//! objects in memory, bytes that grow, and the answers that a run ends with.
 #![tactic(auto)]
 
 mod blob;

@@ -12,8 +12,8 @@ use crate::stored::{StoredFile, add_file, find_file, read_piece};
 use std::alloc::{AllocError, Global};
 use std::marker::Model;
 
-/// Files in memory, of which exactly the chosen calls of `read_at` and `read_again` fail, counted from 1. Of
-/// files of one name the first counts. Their count of ends is always 0.
+/// Files in memory, of which exactly the chosen calls of `read_at` and `read_again` fail, counted
+/// from 1. Of files of one name the first counts. Their count of ends is always 0.
 #[derive(Debug, Drop)]
 pub struct MemInputs {
     alloc: Global,
@@ -51,8 +51,8 @@ impl MemInputs {
         }
     }
 
-    /// Adds a file, or changes nothing where there is no memory. A file of a name that is there already is
-    /// never read.
+    /// Adds a file, or changes nothing where there is no memory. A file of a name that is there
+    /// already is never read.
     pub fn add(&mut self, name: &str, bytes: &[u8]) -> Result<(), AllocError>
         ensures added { OnOk result
             (self.new ≡ record self.old { files = self.old.files ++ (name.now, bytes.now) ∷ [] }) }

@@ -9,8 +9,8 @@ use crate::sink::Sink;
 use std::alloc::{AllocError, Global};
 use std::marker::Model;
 
-/// A sink that keeps the bytes in memory. The chosen writes fail, counted from 1; another one fails for want
-/// of memory alone, and exactly then the number of refused writes rises.
+/// A sink that keeps the bytes in memory. The chosen writes fail, counted from 1; another one fails
+/// for want of memory alone, and exactly then the number of refused writes rises.
 #[derive(Debug, Drop)]
 pub struct MemSink {
     bytes: Vec<u8>,

@@ -1,7 +1,7 @@
 use crate::refusal::Refusal;
 
-/// Where a run over files met its first refusal. Files and commands are counted from 1, the offset in bytes
-/// from the start of the file.
+/// Where a run over files met its first refusal. Files and commands are counted from 1, the offset
+/// in bytes from the start of the file.
 #[derive(Debug, Clone, Copy, PartialEq, Eq)]
 pub struct Verdict {
     /// The file, counted from 1.

@@ -11,8 +11,8 @@ use crate::stored::{StoredFile, add_file, find_file, read_piece};
 use std::alloc::{AllocError, Global};
 use std::marker::Model;
 
-/// Files in memory that never fail, seen as the list of their names and bytes. Of files of one name the first
-/// counts. Their counts of faults and of ends are always 0.
+/// Files in memory that never fail, seen as the list of their names and bytes. Of files of one name
+/// the first counts. Their counts of faults and of ends are always 0.
 #[derive(Debug, Drop)]
 pub struct PlainInputs {
     alloc: Global,
@@ -39,8 +39,8 @@ impl PlainInputs {
         }
     }
 
-    /// Adds a file, or changes nothing where there is no memory. A file of a name that is there already is
-    /// never read.
+    /// Adds a file, or changes nothing where there is no memory. A file of a name that is there
+    /// already is never read.
     pub fn add(&mut self, name: &str, bytes: &[u8]) -> Result<(), AllocError>
         ensures added { OnOk result (self.new ≡ self.old ++ (name.now, bytes.now) ∷ []) }
         ensures same { OnErr result (self.new ≡ self.old) }

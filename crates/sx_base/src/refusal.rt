@@ -3,8 +3,8 @@ ghost use Rattle.std.specs.Prelude.{◌≡◌};
 ghost use Rattle.send_model.specs.Refusal.{refusal_number, refusal_name};
 ghost use Rattle.sx_base.specs.Refusals.{refusal_of};
 
-/// Why a command of a stream is refused, with the values that a note prints. The numbers and names are this
-/// program's own.
+/// Why a command of a stream is refused, with the values that a note prints. The numbers and names
+/// are this program's own.
 #[derive(Debug, Clone, Copy, PartialEq, Eq)]
 pub enum Refusal {
     /// A stream does not begin with the text `btrfs-stream` and a zero byte.
@@ -24,7 +24,8 @@ pub enum Refusal {
     },
     /// No command has this number; it keeps the number.
     UnknownCommand(u16),
-    /// An attribute can't be read, is of no known type, stands twice or has a wrong length; it keeps the type.
+    /// An attribute can't be read, is of no known type, stands twice or has a wrong length; it
+    /// keeps the type.
     BadAttribute(u16),
     /// A command lacks an attribute that it needs; it keeps the attribute's type.
     MissingAttribute(u16),
@@ -87,8 +88,11 @@ pub enum Refusal {
     BadFallocate(u32),
     /// A part does not follow on the part before it.
     NotConsecutive,
-    /// Kept for commands that are not taken, of which there are none; it keeps the command's number.
+    /// Kept for commands that are not taken, of which there are none; it keeps the command's
+    /// number.
     NotBuilt(u16),
+    /// A text is not that of whole streams.
+    BadText,
     /// A subvolume has no inode number left.
     NoNumber,
 }
@@ -136,6 +140,7 @@ impl Refusal {
             Refusal::BadFallocate(_) => 34,
             Refusal::NotConsecutive => 35,
             Refusal::NotBuilt(_) => 36,
+            Refusal::BadText => 37,
             Refusal::NoNumber => 38,
         }
     }
@@ -182,6 +187,7 @@ impl Refusal {
             Refusal::BadFallocate(_) => "BadFallocate",
             Refusal::NotConsecutive => "NotConsecutive",
             Refusal::NotBuilt(_) => "NotBuilt",
+            Refusal::BadText => "BadText",
             Refusal::NoNumber => "NoNumber",
         }
     }

@@ -7,8 +7,8 @@ ghost use Rattle.sx_base.specs.Outside.{AppendsPart};
 use crate::failed::Failed;
 use crate::sink::Sink;
 
-/// Writes the whole piece. At `Failed`, which comes only where the sink's count of faults rose, the sink took
-/// a proper prefix of it. Takes no memory of its own.
+/// Writes the whole piece. At `Failed`, which comes only where the sink's count of faults rose, the
+/// sink took a proper prefix of it. Takes no memory of its own.
 pub fn write_whole<S: Sink>(sink: &mut S, piece: &[u8]) -> Result<(), Failed>
     ensures whole { OnOk result (Appends (S.taken sink.old) (S.taken sink.new) piece.now) }
     ensures part { OnErr result (AppendsPart (S.taken sink.old) (S.taken sink.new) piece.now) }

@@ -1,4 +1,5 @@
--- What the bytes in front of a list say of all of it: the header of a stream, the header of a frame, its body.
+-- What the bytes in front of a list say of all of it: the header of a stream, the header of a
+-- frame, its body.
 use Rattle.std.specs.Prelude.{◌≡◌, ℕ, ◌+◌, ◌<◌, ◌≤◌, Bool, true, false, List, length, take, drop, Result, Ok, Err, nat_le, nat_lt}
 use Rattle.std.proofs.Common.{refl, ap, subst, ◌∙◌, arith, length-take, le-leb, ltb-false, lit≤}
 use Rattle.std.specs.Str.{bytes_eq}

@@ -145,7 +145,8 @@ handed_within (CommandDue version) left h e =
 
 -- ---- what a feed hands out next
 
--- Where a feed hands out, its bytes stand in front; where it refuses or waits, they are refused or cut short.
+-- Where a feed hands out, its bytes stand in front; where it refuses or waits, they are refused or
+-- cut short.
 pub handed_next : (fed : Fed) (h : Handed) → next_of fed ≡ Ok (Some h) → (fed.refused ≡ None) × (handed fed.due fed.left ≡ Ok h)
 handed_next fed h e = by_refused fed.refused refl e
   where

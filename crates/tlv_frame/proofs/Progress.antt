@@ -149,8 +149,8 @@ step_ok n version seen b bs a e new =
 
 -- ---- progress
 
--- So much of a body was read: the attributes that were read, their numbers, how many more there may be at most, and
--- that what is left gives, after these, what the whole body gives.
+-- So much of a body was read: the attributes that were read, their numbers, how many more there may
+-- be at most, and that what is left gives, after these, what the whole body gives.
 pub record Read (version : ℕ) (body : List ℕ) (at : ℕ) (read : List Attribute) (seen : List ℕ) (fuel : ℕ) : Type 0 where
   pub within : at ≤ length body
   pub enough : length body ≤ at + fuel

@@ -1,4 +1,5 @@
--- A file in pieces, however it is cut, and however often a feed is asked between them. The law is this program's own.
+-- A file in pieces, however it is cut, and however often a feed is asked between them. The law is
+-- this program's own.
 use Rattle.std.specs.Prelude.{◌≡◌, ◌<◌, ℕ, List, [], ◌∷◌, ◌++◌, length, drop, Option, None, Some, Result, Ok, Err}
 use Rattle.send_model.specs.Refusal.{Refusal, Truncated}
 use Rattle.send_model.specs.Reading.{Due, HeaderDue}
@@ -33,14 +34,16 @@ all_handed [] = []
 all_handed (Given piece ∷ turns) = all_handed turns
 all_handed (Asked answer ∷ turns) = with_handed answer (all_handed turns)
 
--- The definitions read these headers and frames, one after the other, in front of bytes; then this is due, in front of the rest.
+-- The definitions read these headers and frames, one after the other, in front of bytes; then this
+-- is due, in front of the rest.
 abbrev pub AreRead : Due → List ℕ → List Handed → Due → List ℕ → Type 0
 AreRead due bytes [] last rest = (due ≡ last) × (bytes ≡ rest)
 AreRead due bytes (h ∷ units) last rest = (handed due bytes ≡ Ok h) × AreRead h.due (drop h.taken bytes) units last rest
 
--- Whatever bytes follow those that were given, the headers and frames that were handed out are the first ones of all the bytes.
--- Where the feed refuses, the definitions refuse what is left, for the same reason; where it waits, what is left is cut short; and
--- what it hands out next is what they read next.
+-- Whatever bytes follow those that were given, the headers and frames that were handed out are the
+-- first ones of all the bytes. Where the feed refuses, the definitions refuse what is left, for the
+-- same reason; where it waits, what is left is cut short; and what it hands out next is what they
+-- read next.
 pub record IsOneReading (turns : List Turn) (fed : Fed) (more : List ℕ) : Type 0 where
   pub units : AreRead HeaderDue (all_given turns ++ more) (all_handed turns) fed.due (fed.left ++ more)
   pub next : (h : Handed) → next_of fed ≡ Ok (Some h) → handed fed.due (fed.left ++ more) ≡ Ok h

@@ -1,5 +1,6 @@
--- A file that comes in pieces: what is handed out of the bytes that were given, and what is kept of them. The headers and
--- frames are those of the definitions; that they are handed out one by one is this program's own.
+-- A file that comes in pieces: what is handed out of the bytes that were given, and what is kept of
+-- them. The headers and frames are those of the definitions; that they are handed out one by one is
+-- this program's own.
 use Rattle.std.specs.Prelude.{◌≡◌, ℕ, ◌+◌, ◌-◌, ◌≤◌, ◌==◌, Bool, true, false, ◌&&◌, ⊤, List, [], ◌++◌, length, take, drop, Option, None, Some, Result, Ok, Err, if◌then◌else◌}
 use Rattle.send_model.specs.Refusal as meant
 use Rattle.send_model.specs.Chain.{◌>>=◌}
@@ -30,8 +31,9 @@ pub record Handed : Type 0 where
   pub due : Due
   pub ended : Bool
 
--- The bytes that were given and not handed out, those of the piece that was handed out last if nothing was given since, what is
--- due, whether the last piece was an END, and the refusal if the bytes were refused.
+-- The bytes that were given and not handed out, those of the piece that was handed out last if
+-- nothing was given since, what is due, whether the last piece was an END, and the refusal if the
+-- bytes were refused.
 pub record Fed : Type 0 where
   pub left : List ℕ
   pub last : List ℕ
@@ -120,7 +122,8 @@ Passes fed next (Ok None) = next ≡ Ok None
 Passes fed next (Ok (Some unit)) = (h : Handed) × ((next ≡ Ok (Some h)) × ((h.piece ≡ passed_piece fed unit) × PassedFits fed unit))
 Passes fed next (Err refusal) = next ≡ Err (refusal_of refusal)
 
--- What was due where a unit was gone past: the header of a stream, or a frame of a stream of the version.
+-- What was due where a unit was gone past: the header of a stream, or a frame of a stream of the
+-- version.
 abbrev pub PassedDue : Due → Passed → Type 0
 PassedDue due (passed.Head head) = due ≡ HeaderDue
 PassedDue due (passed.Frame head version) = (due ≡ CommandDue version) × (is_version version ≡ true)

@@ -1,4 +1,5 @@
--- The header of a frame, and the frame that is being written. Source: struct btrfs_cmd_header in send.h of btrfs-progs.
+-- The header of a frame, and the frame that is being written. Source: struct btrfs_cmd_header in
+-- send.h of btrfs-progs.
 use Rattle.std.specs.Prelude.{ℕ, ◌==◌, List, [], ◌∷◌, ◌++◌, drop, Result, Ok, nat_lt}
 use Rattle.std.specs.Int.{w16, w32, to_le_bytes}
 use Rattle.send_model.specs.Refusal.{Refusal, LongCommand, BadChecksum}
@@ -31,7 +32,8 @@ head_bytes head = to_le_bytes w32 head.len ++ to_le_bytes w16 head.number ++ to_
 abbrev pub head_room : List ℕ
 head_room = 0 ∷ 0 ∷ 0 ∷ 0 ∷ 0 ∷ 0 ∷ 0 ∷ 0 ∷ 0 ∷ 0 ∷ []
 
--- A frame that is being written: the place where it begins, its command's number, and its stream's version.
+-- A frame that is being written: the place where it begins, its command's number, and its stream's
+-- version.
 pub record Begun : Type 0 where
   pub start : ℕ
   pub number : ℕ

@@ -49,7 +49,8 @@ ReadsTable (Err refusal) read = read ≡ Err (refusal_of refusal)
 abbrev pub no_attributes : ℕ → Table
 no_attributes version = record { version = version; slots = replicate 32 None }
 
--- A table of this version stands for the attributes that are read, or it has none and the answer is the refusal of these.
+-- A table of this version stands for the attributes that are read, or it has none and the answer is
+-- the refusal of these.
 abbrev pub TakesBody : (version : ℕ) → Table → Result ⊤ Refusal → Result (List Attribute) meant.Refusal → Type 0
 TakesBody version table (Ok done) read = (table.version ≡ version) × ReadsTable (Ok table) read
 TakesBody version table (Err refusal) read = (table ≡ no_attributes version) × ReadsTable (Err refusal) read
@@ -73,7 +74,8 @@ abbrev pub IsShort : ℕ → ℕ → Option Slot → Type 0
 IsShort version kind None = Unit {0}
 IsShort version kind (Some slot) = HasRoom version kind (length slot.bytes)
 
--- One slot for each attribute number up to the last, and lengths that an attribute's header can say.
+-- One slot for each attribute number up to the last, and lengths that an attribute's header can
+-- say.
 pub record IsWhole (version : ℕ) (slots : List (Option Slot)) : Type 0 where
   pub count : length slots ≡ 32
   pub short : (kind : ℕ) → IsShort version kind (slot_at slots kind)

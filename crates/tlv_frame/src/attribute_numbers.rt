@@ -1,4 +1,5 @@
-//! The numbers of the attributes of both versions. Source: BTRFS_SEND_A_.. in send.h of btrfs-progs.
+//! The numbers of the attributes of both versions. Source: BTRFS_SEND_A_.. in send.h of
+//! btrfs-progs.
 
 /// The identifier of a subvolume.
 pub const UUID: u16 = 1;

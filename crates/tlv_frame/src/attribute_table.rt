@@ -13,8 +13,8 @@ use sx_base::Refusal;
 // How many slots a table has: one for each attribute number up to the last of version 2, 31.
 const SLOTS: usize = 32;
 
-// Where the bytes of an attribute stand in the body: the place of the first of them, and how many they are. A header stands before them,
-// so 0 is the place of none.
+// Where the bytes of an attribute stand in the body: the place of the first of them, and how many
+// they are. A header stands before them, so 0 is the place of none.
 #[derive(Debug, Clone, Copy)]
 struct Slot {
     place: usize,
@@ -24,7 +24,8 @@ struct Slot {
 // That of an attribute that the body does not have.
 const ABSENT: Slot = Slot { place: 0, len: 0 };
 
-/// The attributes of a frame's body, which it borrows. It is seen as its slots with the version of the stream.
+/// The attributes of a frame's body, which it borrows. It is seen as its slots with the version of
+/// the stream.
 #[derive(Debug, Drop)]
 pub struct AttrTable<'a> {
     version: u32,
@@ -57,7 +58,8 @@ impl<'a> AttrTable<'a> {
         }
     }
 
-    /// Takes the attributes of a frame's body in place of those it has. The table stays where it is, so that nothing is copied.
+    /// Takes the attributes of a frame's body in place of those it has. The table stays where it
+    /// is, so that nothing is copied.
     ///
     /// # Errors
     /// Those of `attrs`. The table then has no attributes.
@@ -77,8 +79,8 @@ impl<'a> AttrTable<'a> {
         }
     }
 
-    /// The bytes of the attribute of this number, None where the body has none. They are fewer than 65,536, but for
-    /// DATA in version 2.
+    /// The bytes of the attribute of this number, None where the body has none. They are fewer than
+    /// 65,536, but for DATA in version 2.
     pub fn get(&self, kind: u16) -> Option<&'a [u8]>
         ensures value { option_map (λ bytes. bytes.now) result ≡ value_at self.now kind }
         ensures short { IfSome result (λ bytes. HasRoom self.now.version kind (length bytes.now)) }
@@ -89,7 +91,8 @@ impl<'a> AttrTable<'a> {
         }
     }
 
-    /// The place in the body of the first byte of the attribute of this number, None where the body has none.
+    /// The place in the body of the first byte of the attribute of this number, None where the body
+    /// has none.
     pub fn place(&self, kind: u16) -> Option<usize>
         ensures place { result ≡ place_at self.now kind }
     {
@@ -107,9 +110,10 @@ impl<'a> AttrTable<'a> {
     }
 }
 
-/// The attributes of a frame's body. BadAttribute with the attribute's number, 0 where it has none, for the first that
-/// is not whole, has no number of this version, or stands for the second time. Takes no memory. Source: struct
-/// btrfs_tlv_header in send.h of btrfs-progs, and read_cmd in send-stream.c.
+/// The attributes of a frame's body. BadAttribute with the attribute's number, 0 where it has none,
+/// for the first that is not whole, has no number of this version, or stands for the second time.
+/// Takes no memory. Source: struct btrfs_tlv_header in send.h of btrfs-progs, and read_cmd in
+/// send-stream.c.
 pub fn attrs(body: &[u8], version: u32) -> Result<AttrTable<'_>, Refusal>
     ensures exact { ReadsTable result (attributes_at version body.now) }
     ensures kept { IfOk result (λ table. table.version ≡ version) }
@@ -182,7 +186,8 @@ pub(crate) fn has_no_length(version: u32, kind: u16) -> bool
     version == 2 && kind == DATA
 }
 
-/// How many bytes stand before those of an attribute in a body: its number, and its length where it has one.
+/// How many bytes stand before those of an attribute in a body: its number, and its length where it
+/// has one.
 pub fn attr_head_len(version: u32, kind: u16) -> usize
     ensures { result ≡ attribute_head version kind }
 {

@@ -36,12 +36,14 @@ pub enum Passed {
     Frame { head: FrameHead, version: u32 },
 }
 
-/// The bytes of a file that is given in pieces of any size, and handed out as headers and frames. It is seen as the bytes that
-/// were not handed out yet, with what is due and how the last unit ended.
+/// The bytes of a file that is given in pieces of any size, and handed out as headers and frames.
+/// It is seen as the bytes that were not handed out yet, with what is due and how the last unit
+/// ended.
 #[derive(Debug, Drop)]
 pub struct Feed {
     bytes: Vec<u8>,
-    // Where the last unit begins, and where it ends: there the bytes begin that were not handed out.
+    // Where the last unit begins, and where it ends: there the bytes begin that were not handed
+    // out.
     last: usize,
     start: usize,
     due: Option<u32>,
@@ -84,8 +86,8 @@ impl Feed {
         })
     }
 
-    /// Takes as many of the bytes as there is room for, and gives their number. There is room for 524,288 bytes less those that
-    /// stand in no unit that was handed out. Takes no memory.
+    /// Takes as many of the bytes as there is room for, and gives their number. There is room for
+    /// 524,288 bytes less those that stand in no unit that was handed out. Takes no memory.
     pub fn give(&mut self, piece: &[u8]) -> usize
         ensures count { result ≡ min (length piece.now) (room - length self.old.left) }
         ensures taken { self.new ≡ fed_with (take result piece.now) self.old }
@@ -103,9 +105,10 @@ impl Feed {
         count
     }
 
-    /// The next header, or the next frame with its checksum right, in place. None exactly where the bytes that are left are cut
-    /// short: a header is due and there are fewer than 17, or a frame is due and there are fewer than ten, or fewer than its
-    /// header says. Refused as the definitions of reading refuse a header or a checksum, and then always with this refusal.
+    /// The next header, or the next frame with its checksum right, in place. None exactly where the
+    /// bytes that are left are cut short: a header is due and there are fewer than 17, or a frame
+    /// is due and there are fewer than ten, or fewer than its header says. Refused as the
+    /// definitions of reading refuse a header or a checksum, and then always with this refusal.
     /// Takes no memory.
     pub fn next(&mut self) -> Result<Option<Unit<'_>>, Refusal>
         ensures* after { sem 𝓛 (Rests the_row self.entry (λ new. new ≡ fed_after self.old)) }
@@ -122,7 +125,8 @@ impl Feed {
         }
     }
 
-    /// The bytes of the unit that was handed out last, none where bytes were given since. Takes no memory.
+    /// The bytes of the unit that was handed out last, none where bytes were given since. Takes no
+    /// memory.
     pub fn last(&self) -> &[u8]
         ensures bytes { result.now ≡ self.now.last }
     {
@@ -136,7 +140,8 @@ impl Feed {
         &self.bytes.as_slice()[self.start..]
     }
 
-    /// Goes past what `next` would hand out, and gives None and the refusals that `next` would give. Takes no memory.
+    /// Goes past what `next` would hand out, and gives None and the refusals that `next` would
+    /// give. Takes no memory.
     pub fn pass(&mut self) -> Result<Option<Passed>, Refusal>
         ensures after { self.new ≡ fed_after self.old }
         ensures answer { Passes self.new (next_of self.old) result }

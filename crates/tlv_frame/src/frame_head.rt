@@ -23,8 +23,8 @@ pub struct FrameHead {
 }
 
 impl FrameHead {
-    /// The header that these bytes are. LongCommand exactly where the body is longer than 262,144 bytes. Source: struct
-    /// btrfs_cmd_header in send.h of btrfs-progs.
+    /// The header that these bytes are. LongCommand exactly where the body is longer than 262,144
+    /// bytes. Source: struct btrfs_cmd_header in send.h of btrfs-progs.
     #[tactic(auto, unfolding(crate::specs::Frame::head_at, send_model::specs::Reading::number16, send_model::specs::Reading::number32))]
     pub fn read(bytes: &[u8; 10]) -> Result<FrameHead, Refusal>
         ensures exact { Reads
@@ -40,8 +40,8 @@ impl FrameHead {
         Ok(FrameHead { len, cmd, crc })
     }
 
-    /// Whether the body has the frame's checksum. BadChecksum, with both checksums, exactly where it has another.
-    /// Takes no memory.
+    /// Whether the body has the frame's checksum. BadChecksum, with both checksums, exactly where
+    /// it has another. Takes no memory.
     #[tactic(auto, unfolding(crate::specs::Frame::checksum_holds))]
     pub fn check_crc(&self, body: &[u8]) -> Result<(), Refusal>
         requires whole { length body.now ≡ self.now.len }
@@ -61,7 +61,8 @@ impl FrameHead {
     }
 }
 
-// The checksum of a frame: over its header, with the checksum itself as zero, and then over its body.
+// The checksum of a frame: over its header, with the checksum itself as zero, and then over its
+// body.
 pub(crate) fn checksum(len: u32, cmd: u16, body: &[u8]) -> u32
     ensures { result ≡ frame_checksum len cmd body.now }
 {

@@ -13,8 +13,8 @@ use std::alloc::AllocError;
 use std::marker::Model;
 use sx_base::Blob;
 
-/// A frame that is being written at the end of a blob, which is lent to each call. It keeps the place where the frame
-/// begins.
+/// A frame that is being written at the end of a blob, which is lent to each call. It keeps the
+/// place where the frame begins.
 #[derive(Debug, Drop)]
 pub struct FrameWriter {
     start: usize,
@@ -31,8 +31,8 @@ impl Model for FrameWriter {
 }
 
 impl FrameWriter {
-    /// Begins a frame of this command at the end of the blob: ten bytes of room for its header. Without memory the blob
-    /// is as it was.
+    /// Begins a frame of this command at the end of the blob: ten bytes of room for its header.
+    /// Without memory the blob is as it was.
     pub fn begin(to: &mut Blob, cmd: u16, version: u32) -> Result<FrameWriter, AllocError>
         ensures room { OnOk result (to.new ≡ to.old ++ head_room) }
         ensures begun { IfOk result
@@ -48,7 +48,8 @@ impl FrameWriter {
         })
     }
 
-    /// Appends an attribute that is a number of eight bytes. Without memory the blob begins with the bytes that it had.
+    /// Appends an attribute that is a number of eight bytes. Without memory the blob begins with
+    /// the bytes that it had.
     pub fn attr_u64(&mut self, to: &mut Blob, kind: u16, n: u64) -> Result<(), AllocError>
         ensures appended { OnOk result
             (to.new ≡ to.old
@@ -60,8 +61,8 @@ impl FrameWriter {
         self.attr_bytes(to, kind, &n.to_le_bytes())
     }
 
-    /// Appends an attribute with these bytes: its number, their length where an attribute of this number has one, and the bytes.
-    /// Without memory the blob begins with the bytes that it had.
+    /// Appends an attribute with these bytes: its number, their length where an attribute of this
+    /// number has one, and the bytes. Without memory the blob begins with the bytes that it had.
     #[tactic(auto, unfolding(send_model::specs::Spelling::attribute_bytes))]
     pub fn attr_bytes(&mut self, to: &mut Blob, kind: u16, bytes: &[u8]) -> Result<(), AllocError>
         requires short { HasRoom self.old.version kind (length bytes.now) }
@@ -81,8 +82,9 @@ impl FrameWriter {
         to.push_all(bytes)
     }
 
-    /// Appends the bytes of a write: with their length in version 1, and with none in version 2, where they are the rest of the
-    /// body. Without memory the blob begins with the bytes that it had.
+    /// Appends the bytes of a write: with their length in version 1, and with none in version 2,
+    /// where they are the rest of the body. Without memory the blob begins with the bytes that it
+    /// had.
     pub fn attr_data(&mut self, to: &mut Blob, bytes: &[u8]) -> Result<(), AllocError>
         requires short { HasRoom self.old.version DATA (length bytes.now) }
         ensures appended { OnOk result
@@ -94,7 +96,8 @@ impl FrameWriter {
         self.attr_bytes(to, DATA_NUMBER, bytes)
     }
 
-    /// Writes the header of the frame, whose body are the bytes after the room for it. Takes no memory.
+    /// Writes the header of the frame, whose body are the bytes after the room for it. Takes no
+    /// memory.
     pub fn finish(self, to: &mut Blob)
         requires begun { self.start + 10 ≤ length to.old }
         requires short { length to.old < self.start + 10 + 2 ^ 32 }

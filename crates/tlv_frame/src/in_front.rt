@@ -5,10 +5,12 @@ use crate::frame_head::FrameHead;
 use crate::stream_head::StreamHead;
 use sx_base::Refusal;
 
-/// The length of a stream's header in bytes. Source: struct btrfs_stream_header in send.h of btrfs-progs.
+/// The length of a stream's header in bytes. Source: struct btrfs_stream_header in send.h of
+/// btrfs-progs.
 pub const HEADER_LEN: usize = 17;
 
-/// The length of a frame's header in bytes. Source: struct btrfs_cmd_header in send.h of btrfs-progs.
+/// The length of a frame's header in bytes. Source: struct btrfs_cmd_header in send.h of
+/// btrfs-progs.
 pub const FRAME_HEAD_LEN: usize = 10;
 
 // The header of a stream in front, None where it is cut short.
@@ -26,8 +28,8 @@ pub(crate) fn head_in(left: &[u8]) -> Result<Option<StreamHead>, Refusal>
     }
 }
 
-/// The header of the frame in front, whose checksum is right. `None` where the frame is cut short, and its header shows no
-/// fault. Takes no memory.
+/// The header of the frame in front, whose checksum is right. `None` where the frame is cut short,
+/// and its header shows no fault. Takes no memory.
 pub fn frame_in(left: &[u8]) -> Result<Option<FrameHead>, Refusal>
     ensures exact { FindsFrame left.now result }
 {

@@ -1,4 +1,5 @@
-//! The bytes of a stream: its header, frames with their checksums, and the attributes of a frame, read and written.
+//! The bytes of a stream: its header, frames with their checksums, and the attributes of a frame,
+//! read and written.
 #![tactic(auto)]
 
 pub mod attribute_numbers;

@@ -14,8 +14,9 @@ pub struct StreamHead {
 }
 
 impl StreamHead {
-    /// The header that these bytes are. BadMagic where they do not begin with the text of a stream, BadVersion where
-    /// the version is neither 1 nor 2. Source: struct btrfs_stream_header in send.h of btrfs-progs.
+    /// The header that these bytes are. BadMagic where they do not begin with the text of a stream,
+    /// BadVersion where the version is neither 1 nor 2. Source: struct btrfs_stream_header in
+    /// send.h of btrfs-progs.
     #[tactic(auto, unfolding(send_model::specs::Reading::stream_version, send_model::specs::Reading::number32))]
     pub fn read(bytes: &[u8; 17]) -> Result<StreamHead, Refusal>
         ensures exact { Reads (λ head. head.version) result (stream_version bytes.now) }

@@ -1,8 +1,9 @@
-// Three hundred edits over a tree, beside what a plain map makes of them: a model in another language drew the edits and says what
-// each answers and what stands after 160 and after all of them.
+// Three hundred edits over a tree, beside what a plain map makes of them: a model in another
+// language drew the edits and says what each answers and what stands after 160 and after all of
+// them.
 //
-// An edit is four letters: what it does, a path, another path (or a mode), and the number of its refusal, counted from @, which
-// stands for none.
+// An edit is four letters: what it does, a path, another path (or a mode), and the number of its
+// refusal, counted from @, which stands for none.
 use crate::marks::Mark;
 use crate::same::same;
 use inode_tree::{NodeKind, Tree};

@@ -152,8 +152,9 @@ impl Both {
     }
 }
 
-/// One call of the table, drawn. Places and lengths are small, so that runs meet, and lengths of 0 come too. No two calls put the
-/// same cell. False where a range did not lie in the contents, which does not happen.
+/// One call of the table, drawn. Places and lengths are small, so that runs meet, and lengths of 0
+/// come too. No two calls put the same cell. False where a range did not lie in the contents, which
+/// does not happen.
 fn call(draw: &mut Draw, number: u64, file: &mut Both, other: &mut Both) -> Result<bool, AllocError>
     requires { number < 2 ^ 32 }
 {
@@ -228,7 +229,8 @@ fn a_table_of_calls_gives_the_same_cells(rt: HostRuntime) -> Result<(), Fail> {
     Ok(())
 }
 
-/// A file of so many runs of two cells with a zero cell behind each, of which one in `step` is foreign.
+/// A file of so many runs of two cells with a zero cell behind each, of which one in `step` is
+/// foreign.
 fn rows(alloc: Global, runs: u32, step: u32) -> Result<Both, AllocError>
     requires { 0 < step }
 {
@@ -244,7 +246,8 @@ fn rows(alloc: Global, runs: u32, step: u32) -> Result<Both, AllocError>
 
 #[test]
 fn the_next_foreign_cell_is_that_of_the_plain_cells(rt: HostRuntime) -> Result<(), Fail> {
-    // how many runs, and how many of them have one foreign among them; the last ones are of many nodes
+    // how many runs, and how many of them have one foreign among them; the last ones are of many
+    // nodes
     let table = [
         (0, 1),
         (1, 1),

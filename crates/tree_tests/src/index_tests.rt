@@ -1,4 +1,5 @@
-// That there is memory, and an index of the least subvolume. Files with several names stand in the tests of bases.
+// That there is memory, and an index of the least subvolume. Files with several names stand in the
+// tests of bases.
 use crate::same::same;
 use extent_map::Nowhere;
 use path_index::PathIndex;

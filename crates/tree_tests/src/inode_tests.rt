@@ -1,4 +1,5 @@
-// Trees as commands make them. The calls stand in tables, so that each test is a loop over one helper.
+// Trees as commands make them. The calls stand in tables, so that each test is a loop over one
+// helper.
 use crate::marks::Mark;
 use crate::same::same;
 use extent_map::Extents;
@@ -79,7 +80,8 @@ fn tree_after(
     Ok(tree)
 }
 
-// A copy of a tree, of which nothing is said: what is known of two trees at once makes a proof long.
+// A copy of a tree, of which nothing is said: what is known of two trees at once makes a proof
+// long.
 fn copy_of(tree: &Tree<Mark>) -> Result<Tree<Mark>, AllocError> {
     tree.copy()
 }

@@ -1,5 +1,5 @@
-//! Tests of the calls of `extent_map`, `shared_map`, `inode_tree`, `subvol`, `subvol_catalog`, `path_index` and `tree_view`. Nothing stands
-//! here but tests.
+//! Tests of the calls of `extent_map`, `shared_map`, `inode_tree`, `subvol`, `subvol_catalog`,
+//! `path_index` and `tree_view`. Nothing stands here but tests.
 #![tactic(auto)]
 
 #[cfg(test)]

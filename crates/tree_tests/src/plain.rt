@@ -1,5 +1,5 @@
-// The contents of a file as a vector of cells: the definitions as a plain program, small and slow, with the contracts
-// of `Extents`.
+// The contents of a file as a vector of cells: the definitions as a plain program, small and slow,
+// with the contracts of `Extents`.
 ghost use Rattle.std.specs.Prelude.{◌≡◌, ℕ, ◌+◌, ◌-◌, ◌^◌, ◌<◌, ◌≤◌, ◌++◌, ◌⊎◌, IfOk, OnOk, None, [], length};
 ghost use lib.ListN.{replicate};
 ghost use Rattle.extent_map.specs.Cells.{resize_cells, put_cells, cells_between};

@@ -1,5 +1,5 @@
-// What is printed of a store and of its subvolumes. The lines of the first two subvolumes and of the first lists are from another
-// program; those of the others are written by hand.
+// What is printed of a store and of its subvolumes. The lines of the first two subvolumes and of
+// the first lists are from another program; those of the others are written by hand.
 
 use crate::marks::Mark;
 use crate::same::same;
@@ -21,7 +21,8 @@ fn key(byte: u8, ctransid: u64) -> Key {
 
 // ---- list
 
-// An entry: its name, the byte of its UUID, its transaction number, whether it is complete, and its parent's byte and number.
+// An entry: its name, the byte of its UUID, its transaction number, whether it is complete, and its
+// parent's byte and number.
 type Row = (&'static [u8], u8, u64, bool, Option<(u8, u64)>);
 
 const TWO_PARTS: &[Row] = &[
@@ -173,8 +174,8 @@ const KINDS: &[Step] = &[
 const KIND_LINES: &[u8] =
     b"subvol a 11111111-1111-1111-1111-111111111111 1 262\ninode 256 dir 700 0 0 0.000000000 0.000000000 0 -\ninode 257 dir 700 0 0 0.000000000 0.000000000 0 -\nxattr 257 user.k 00ff\ninode 258 symlink 777 0 0 0.000000000 0.000000000 0 ../x\\x20y\ninode 259 chr 600 0 0 0.000000000 0.000000000 0 1281\ninode 260 fifo 600 0 0 0.000000000 0.000000000 0 -\ninode 261 socket 600 0 0 0.000000000 0.000000000 0 -\nname 256 d 257\nname 257 n 259\nname 257 p 260\nname 257 q 261\nname 257 s 258\n";
 
-// Names in the order of their bytes, two of one inode; modes with and without all bits; attributes in the order of their names; a
-// file that ends in a hole.
+// Names in the order of their bytes, two of one inode; modes with and without all bits; attributes
+// in the order of their names; a file that ends in a hole.
 const FURTHER: &[Step] = &[
     Step::Make(b"\xff", NodeKind::BlockDevice, u64::MAX, b""),
     Step::Make(b"b", NodeKind::Directory, 0, b""),
@@ -193,7 +194,8 @@ const FURTHER: &[Step] = &[
 const FURTHER_LINES: &[u8] =
     b"subvol \\x09 00000000-0000-0000-0000-000000000000 0 260\ninode 256 dir 700 0 0 0.000000000 0.000000000 0 -\ninode 257 blk 600 0 0 0.000000000 0.000000000 0 18446744073709551615\ninode 258 dir 0 0 0 0.000000000 0.000000000 0 -\ninode 259 file 7777 18446744073709551615 65534 18446744073709551615.999999999 1.000000010 16 4100\nxattr 259 user.b \nname 256 B 259\nname 256 b 258\nname 256 b\\x20c 259\nname 256 \\xff 257\nname 258 z 259\n";
 
-// The name, the byte of the UUID and the transaction number of a subvolume, how it is made, and its lines.
+// The name, the byte of the UUID and the transaction number of a subvolume, how it is made, and its
+// lines.
 type Shown = (&'static [u8], u8, u64, &'static [Step], &'static [u8]);
 
 const SHOWN: &[Shown] = &[
@@ -213,7 +215,8 @@ fn subvolumes_are_shown(rt: HostRuntime) -> Result<(), Fail> {
 
 // ---- faults
 
-// The lines of the first list, where the output fails its call of this number: what came out, and how it ended.
+// The lines of the first list, where the output fails its call of this number: what came out, and
+// how it ended.
 fn cut_list(alloc: Global, call: u64) -> Result<(u64, Outcome), Fail> {
     let mut out = MemSink::new(alloc);
     out.fail_call(call)?;

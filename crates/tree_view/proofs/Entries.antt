@@ -1,5 +1,5 @@
 -- The entries of maps, one after the other as look-ups by key give them.
-use Rattle.std.specs.Prelude.{◌≡◌, ℕ, zero, suc, ◌+◌, ◌<◌, ◌≤◌, Bool, true, false, cond, T, List, [], ◌∷◌, ◌++◌, length, Option, None, Some, slice_get, drop}
+use Rattle.std.specs.Prelude.{◌≡◌, ℕ, ◌<◌, ◌≤◌, Bool, true, false, cond, T, [], ◌∷◌, ◌++◌, length, Option, None, Some}
 use Rattle.std.specs.declared.cmp.Ordering.{Ordering}
 use Rattle.std.specs.declared.cmp.Ordering.TheVariants.{Less, Equal, Greater}
 use Rattle.std.specs.Ordering.{nat_cmp, is_lt, is_eq}
@@ -7,8 +7,6 @@ use Rattle.std.specs.Option.{option_map}
 use Rattle.std.specs.Cmp.{IsTotalOrder, tied_itself, alike_right, ranked, nat_cmp_is}
 use Rattle.std.specs.FinMap.Entries.{below_all, find-where_key}
 use Rattle.std.proofs.Common.{refl, sym, ap, subst, ◌∙◌, arith}
-use Rattle.std.proofs.lemmas.List.{drop_more}
-use Rattle.std.proofs.lemmas.Option.{slice_get_within, get_or_from_slice_get}
 use Rattle.send_model.specs.Map.{Map, IsMap, value_at}
 use Rattle.send_model.proofs.MapLaws.{T_left, T_right, is_less}
 use Rattle.shared_map.specs.Sought.{entries_above, entry_after}
@@ -80,8 +78,8 @@ module _ {K X : Type 0} (R : K → K → Ordering) (total : IsTotalOrder R) wher
       by_side true same = sym same
       by_side false same = cc
 
--- An entry is the next above a key: there are fewer above it, it is the entry of its own key, and where the keys rise, it and those
--- above it are all above the key.
+-- An entry is the next above a key: there are fewer above it, it is the entry of its own key, and
+-- where the keys rise, it and those above it are all above the key.
 pub record IsNextAbove {K X : Type 0} (R : K → K → Ordering) (key : K) (m : Map K X) (e : K × X) : Type 0 where
   pub fewer : length (entries_above R e.0 m) < length (entries_above R key m)
   pub value : value_at R e.0 m ≡ Some e.1
@@ -160,21 +158,3 @@ zero_first {X = X} (e ∷ m) sorted = by_side (nat_cmp 0 e.0) refl
         let zero_is : 0 ≡ e.0 = ranked 0 e.0 Equal is in
         ap by (sym is) ∙ ap (λ (r : Map ℕ X). (0, e.1) ∷ r) rest.0 ∙ ap (λ (k : ℕ). (k, e.1) ∷ m) zero_is
     by_side Greater is = let below : e.0 < 0 = ranked 0 e.0 Greater is in absurd (omega (arith, below))
-
--- ---- a list by its places
-
--- The element at a place stands in front of those behind it.
-pub at_place : {X : Type 0} (xs : List X) (place : ℕ) (x : X) → Some x ≡ slice_get xs place → drop place xs ≡ x ∷ drop (place + 1) xs
-at_place {X = X} xs place x is = drop_more xs place x (slice_get_within xs place x (sym is)) ∙ ap (λ (y : X). y ∷ drop (place + 1) xs) (get_or_from_slice_get xs place x x (sym is))
-
--- There is one at each place below the length, and none is left at the length.
-pub is_there : {X : Type 0} (xs : List X) (place : ℕ) → place < length xs → None ≡ slice_get xs place → ⊥
-is_there [] place less none = absurd (omega (arith, less))
-is_there (x ∷ xs) zero less none = cc
-is_there (x ∷ xs) (suc place) less none = is_there xs place (omega (arith, less)) none
-
-pub none_left : {X : Type 0} (xs : List X) (place : ℕ) → length xs ≤ place → drop place xs ≡ []
-none_left [] zero past = refl
-none_left [] (suc place) past = refl
-none_left (x ∷ xs) zero past = absurd (omega (arith, past))
-none_left (x ∷ xs) (suc place) past = none_left xs place (omega (arith, past))

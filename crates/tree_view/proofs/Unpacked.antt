@@ -1,4 +1,5 @@
--- The word of contracts on text that is added, unpacked: what it speaks of part by part, as the lemmas name it.
+-- The word of contracts on text that is added, unpacked: what it speaks of part by part, as the
+-- lemmas name it.
 use Rattle.std.specs.Prelude.{ℕ, List, Option, Result}
 use Rattle.sx_base.specs.declared.outcome.Outcome.{Outcome}
 use Rattle.tree_view.specs.Printing as printing

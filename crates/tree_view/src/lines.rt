@@ -102,7 +102,8 @@ fn push_kind(kind: NodeKind, to: &mut Blob) -> Result<(), AllocError>
     }
 }
 
-// The size of a file, the target of a symbolic link, the number of a device; a hyphen for what has none of these.
+// The size of a file, the target of a symbolic link, the number of a device; a hyphen for what has
+// none of these.
 fn push_extra<R: Origin>(inode: &Inode<R>, to: &mut Blob) -> Result<(), AllocError>
     ensures pushed { OnOk result
         (to.new ≡ to.old ++ and_field (extra_text inode.now.kind inode.now)) }

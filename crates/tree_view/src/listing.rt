@@ -11,8 +11,9 @@ use stream_dump::{Gathered, finish};
 use subvol_catalog::Catalog;
 use sx_base::{Outcome, Sink};
 
-/// Writes a line for each entry in the order in which they began: its name, its key, whether it is complete, and the key of its
-/// parent. With `Done` `out` got all lines; where it failed, or there was no memory, a front part of them.
+/// Writes a line for each entry in the order in which they began: its name, its key, whether it is
+/// complete, and the key of its parent. With `Done` `out` got all lines; where it failed, or there
+/// was no memory, a front part of them.
 pub fn list<V, O: Sink>(alloc: Global, catalog: &Catalog<V>, out: &mut O) -> Outcome
     ensures later { O.faults out.old ≤ O.faults out.new }
     ensures steady { SteadyIfDone (O.faults out.old) (O.faults out.new) result }
@@ -37,10 +38,7 @@ fn write_entries<V, O: Sink>(
     ensures added { AddsText (listed catalog.now) (output O.Sink out.old text.old.bytes)
         (output O.Sink out.new text.new.bytes) result }
 {
-    for place in 0..catalog.len() {
-        let Some(entry) = catalog.at(place) else {
-            unreachable!()
-        };
+    for entry in catalog.iter() {
         write_entry(entry, text, out)?;
     }
     Ok(())

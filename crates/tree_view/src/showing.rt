@@ -22,9 +22,10 @@ use subvol::Subvol;
 use subvol_catalog::Key;
 use sx_base::{Outcome, Sink};
 
-/// Writes a line for the subvolume with this name and key, one for each inode by number, each followed by those of its extended
-/// attributes by their names, and one for each name by directory and then by bytes. With `Done` `out` got all lines; where it
-/// failed, or there was no memory, a front part of them. This is said of a lawful subvolume, as each is that edits made.
+/// Writes a line for the subvolume with this name and key, one for each inode by number, each
+/// followed by those of its extended attributes by their names, and one for each name by directory
+/// and then by bytes. With `Done` `out` got all lines; where it failed, or there was no memory, a
+/// front part of them. This is said of a lawful subvolume, as each is that edits made.
 pub fn show<R: Origin, O: Sink>(
     alloc: Global,
     name: &[u8],

@@ -1,4 +1,5 @@
--- What receiving in turns answers over the store of a disk, from what it says over the store that opened.
+-- What receiving in turns answers over the store of a disk, from what it says over the store that
+-- opened.
 use Rattle.std.specs.Prelude.{◌≡◌, ℕ, ◌<◌, List, [], ◌++◌, length, map, take, Option, Err}
 use Rattle.std.specs.List.{AllByRecursion}
 use Rattle.std.proofs.Common.{inl, inr, refl, sym, ap, subst, ◌∙◌, append-nil, append_assoc, arith, length-append}
@@ -21,16 +22,16 @@ use Rattle.store_model.specs.StateLaws.{LinesAreParts}
 use Rattle.store_model.specs.Dues as dues
 use Rattle.store_model.specs.Dues.{Due, Ends}
 use Rattle.store_model.specs.Turns.{Event, completed_parts, lines_of, turn_groups, turns_of}
-use Rattle.turn_model.specs.TurnDues.{in_turns, files_read, room_of, TurnsEnd, interleave_end}
-use Rattle.turn_model.specs.TurnAnswers.{end_over, IsMadeBy, IsOnTurnWay, taken_lines, IsEndDue, TurnsBefore, TurnsAnswer}
-use Rattle.turn_model.proofs.Joining.{lines_joined}
-use Rattle.turn_model.proofs.Standing.{first_events_stand}
+use Rattle.store_model.specs.TurnDues.{in_turns, files_read, room_of, TurnsEnd, interleave_end}
+use Rattle.store_model.specs.TurnAnswers.{end_over, IsMadeBy, IsOnTurnWay, taken_lines, IsEndDue, TurnsBefore, TurnsAnswer}
+use Rattle.store_model.proofs.TurnJoining.{lines_joined}
+use Rattle.store_model.proofs.TurnStanding.{first_events_stand}
 use Rattle.group_log.specs.declared.stops.LogStop.TheVariants as log
 use Rattle.group_log.proofs.GatedGroups.{rests_has}
-use Rattle.store_groups.specs.declared.place.Place.{Place}
-use Rattle.store_groups.specs.declared.stops.StoreStop.{StoreStop}
-use Rattle.store_groups.specs.declared.stops.StoreStop.TheVariants as stop
-use Rattle.store_groups.specs.Stopping.{IfLog, IsNoRefusal}
+use Rattle.group_replay.specs.declared.place.Place.{Place}
+use Rattle.group_replay.specs.declared.stops.StoreStop.{StoreStop}
+use Rattle.group_replay.specs.declared.stops.StoreStop.TheVariants as stop
+use Rattle.group_replay.specs.Stopping.{IfLog, IsNoRefusal}
 use Rattle.store_journal.specs.Shown.{StoreState}
 use Rattle.store_journal.specs.Holding.{bodies_of, HasThese}
 use Rattle.store_journal.specs.Opening.{OpenSays, IsOpenStop, HoldsSome}
@@ -40,11 +41,11 @@ use Rattle.receiver.specs.declared.outcome.Received.TheVariants as how
 use Rattle.receiver.specs.Disks.{HasFront}
 use Rattle.receiver.proofs.Unpacked.{LeavesMore}
 use Rattle.receiver.proofs.DiskRuns.{leaves_either}
-use Rattle.store_words.specs.declared.ends.StoreEnd.{StoreEnd}
-use Rattle.store_words.specs.Ending.{answer_of, end_by, end_received}
-use Rattle.store_words.proofs.StreamAnswers.{always_told, then_told}
-use Rattle.store_words.proofs.Opened.{by_store}
-use Rattle.store_words.proofs.ReceiveAnswers.{stands}
+use Rattle.store_commands.specs.declared.ends.StoreEnd.{StoreEnd}
+use Rattle.store_commands.specs.Ending.{answer_of, end_by, end_received}
+use Rattle.store_commands.proofs.StreamAnswers.{always_told, then_told}
+use Rattle.store_commands.proofs.Opened.{by_store}
+use Rattle.store_commands.proofs.ReceiveAnswers.{stands}
 use Rattle.turn_sessions.proofs.Unpacked.{AreDone, LeftByTurns}
 use Rattle.turn_sessions.proofs.Interleaved.{split_events}
 
@@ -141,7 +142,8 @@ module _ (places : List ℕ) (files : List (List ℕ)) (all : List Guard) (share
     by_end (how.Files (ended.Refused verdict)) core written image d = says (how.Files (ended.Refused verdict)) core written image d (Ends (RefusedAt (verdict_meant verdict))) d.answer.0 d.answer.1
     by_end (how.Files (ended.InputTooLong file)) core written image d = says (how.Files (ended.InputTooLong file)) core written image d (Ends (TooLong file)) d.answer.0 d.answer.1
     by_end (how.LogFull end wanted most) core written image d = says (how.LogFull end wanted most) core written image d (dues.LogFull end wanted most) d.answer.0 d.answer.1
-    by_end (how.Files ended.InputFault) core written image d = goes (how.Files ended.InputFault) core written image d
+    by_end (how.Files ended.InputFault) core written image d =
+        by_store seen base (λ s. IsOnTurnWay (in_turns places files all shares) seen s written image) ⊥ there (on_way (how.Files ended.InputFault) core written image d)
     by_end (how.Files ended.NoMemory) core written image d = goes (how.Files ended.NoMemory) core written image d
     by_end how.StoreFault core written image d = goes how.StoreFault core written image d
     by_end (how.Files ended.OutputFault) core written image d =
@@ -173,7 +175,8 @@ module _ (places : List ℕ) (all : List Guard) (shares : List ℕ) where
   abbrev pub TurnsSaid : (seen left : List ℕ) → StoreEnd → List (List ℕ) → List ℕ → Type 0
   TurnsSaid seen left end files written = AllByRecursion IsBytes files → TurnsAnswer (in_turns places files all shares) seen (answer_of [] [] end) written left
 
-  -- What is said of each image that a crash may leave then, and of each that it may leave meanwhile.
+  -- What is said of each image that a crash may leave then, and of each that it may leave
+  -- meanwhile.
   abbrev pub TurnsLeave : (early pending : Pending) → List ℕ → List (List ℕ) → List ℕ → Type 0
   TurnsLeave early pending seen files written = AllByRecursion IsBytes files → (image : List ℕ) → IsImage pending image → LeftByTurns early seen places files all shares written image
 

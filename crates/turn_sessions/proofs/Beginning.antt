@@ -21,12 +21,12 @@ use Rattle.store_model.specs.Image.{Header}
 use Rattle.store_model.specs.Stored.{Group, Mark}
 use Rattle.store_model.specs.States.{complete_line}
 use Rattle.store_model.specs.Turns.{Event, Begins, beginnings, completed_parts, part_line, lines_of, group_of_event, turn_groups}
-use Rattle.turn_model.specs.TurnDues.{event_pieces}
+use Rattle.store_model.specs.TurnDues.{event_pieces}
 use Rattle.auditor.specs.Following.{blank}
 use Rattle.group_log.specs.declared.stops.LogStop.{LogStop}
 use Rattle.group_log.specs.declared.stops.LogStop.TheVariants as log
-use Rattle.store_groups.specs.declared.place.Place.{Place}
-use Rattle.store_groups.specs.declared.stops.StoreStop.TheVariants as stop
+use Rattle.group_replay.specs.declared.place.Place.{Place}
+use Rattle.group_replay.specs.declared.stops.StoreStop.TheVariants as stop
 use Rattle.store_journal.specs.Answers.{BeginsIn}
 use Rattle.store_journal.specs.Filling as fill
 use Rattle.store_journal.specs.Filling.{Asked, group_asks, IsStopOf}

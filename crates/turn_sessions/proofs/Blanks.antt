@@ -9,9 +9,9 @@ use Rattle.send_model.specs.Store.{Store, Part, edit_part}
 use Rattle.send_model.specs.Cells.{recelled_result, recelled_store, recelled_part}
 use Rattle.send_model.proofs.CellClones.{edit_part-cells}
 use Rattle.clone_resolve.specs.Steps.{data_len, cells_put}
-use Rattle.store_groups.specs.declared.place.Place.{Place}
-use Rattle.store_groups.specs.Placing.{further}
-use Rattle.store_groups.specs.Taking.{as_runs}
+use Rattle.group_replay.specs.declared.place.Place.{Place}
+use Rattle.group_replay.specs.Placing.{further}
+use Rattle.group_replay.specs.Taking.{as_runs}
 use Rattle.turn_sessions.specs.Standing.{Blank, blank_put}
 
 as_many : {A B : Type 0} (xs : List A) (ys : List B) → length xs ≡ length ys → ◌≡◌ {A = List Blank} (map (λ _. tt) xs) (map (λ _. tt) ys)

@@ -12,15 +12,15 @@ use Rattle.send_model.specs.Store.{Store, Part, with_contents, completed}
 use Rattle.store_model.specs.Image.{Header}
 use Rattle.store_model.specs.Stored.{Group, Body, body_at, made}
 use Rattle.store_model.specs.Turns.{Receiving, Taken, Event, Completes, completed_parts, part_uuid, part_of, part_line, lines_of, group_of_event, turn_groups}
-use Rattle.turn_model.specs.TurnDues.{event_pieces}
-use Rattle.turn_model.proofs.Making.{made_back}
+use Rattle.store_model.specs.TurnDues.{event_pieces}
+use Rattle.store_model.proofs.TurnMaking.{made_back}
 use Rattle.auditor.specs.Following.{blank}
 use Rattle.group_log.specs.declared.stops.LogStop.TheVariants as log
-use Rattle.store_groups.specs.declared.place.Place.{Place}
-use Rattle.store_groups.specs.declared.stops.StoreStop.{StoreStop}
-use Rattle.store_groups.specs.declared.stops.StoreStop.TheVariants as stop
-use Rattle.store_groups.specs.Stopping.{IfLog, IsNoRefusal}
-use Rattle.store_groups.specs.Taking.{as_runs}
+use Rattle.group_replay.specs.declared.place.Place.{Place}
+use Rattle.group_replay.specs.declared.stops.StoreStop.{StoreStop}
+use Rattle.group_replay.specs.declared.stops.StoreStop.TheVariants as stop
+use Rattle.group_replay.specs.Stopping.{IfLog, IsNoRefusal}
+use Rattle.group_replay.specs.Taking.{as_runs}
 use Rattle.store_journal.specs.Filling as fill
 use Rattle.store_journal.specs.Filling.{Asked, IsStopOf}
 use Rattle.store_journal.specs.Shown.{StoreState}

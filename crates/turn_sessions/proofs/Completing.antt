@@ -7,15 +7,15 @@ use Rattle.send_model.specs.Store.{Store, Part, State, with_contents, completed}
 use Rattle.send_model.proofs.Sorts.{same_inside}
 use Rattle.store_model.specs.Image.{reserve}
 use Rattle.store_model.specs.Stored.{body_at, frames_at, resumed, edits_made}
-use Rattle.turn_model.proofs.Making.{body_makes}
+use Rattle.store_model.proofs.TurnMaking.{body_makes}
 use Rattle.group_log.specs.Stopping.{IsFault}
 use Rattle.group_log.specs.declared.stops.LogStop.{LogStop}
 use Rattle.group_log.specs.declared.stops.LogStop.TheVariants as log
-use Rattle.store_groups.specs.declared.place.Place.{Place}
-use Rattle.store_groups.specs.declared.stops.StoreStop.{StoreStop}
-use Rattle.store_groups.specs.declared.stops.StoreStop.TheVariants as stop
-use Rattle.store_groups.specs.Stopping.{IfLog}
-use Rattle.store_groups.specs.Taking.{as_runs, open_state}
+use Rattle.group_replay.specs.declared.place.Place.{Place}
+use Rattle.group_replay.specs.declared.stops.StoreStop.{StoreStop}
+use Rattle.group_replay.specs.declared.stops.StoreStop.TheVariants as stop
+use Rattle.group_replay.specs.Stopping.{IfLog}
+use Rattle.group_replay.specs.Taking.{as_runs, open_state}
 use Rattle.store_journal.specs.Filling.{Asked, first_full, group_asks, IsStopOf}
 use Rattle.store_journal.specs.Shown.{StoreState}
 use Rattle.receiver.specs.Answers.{IsUsualLog}

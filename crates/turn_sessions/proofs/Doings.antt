@@ -12,9 +12,9 @@ use Rattle.store_model.specs.Image.{Header}
 use Rattle.store_model.specs.Stored.{Group}
 use Rattle.store_model.specs.Dues as dues
 use Rattle.store_model.specs.Turns.{Event, lines_of, turn_groups}
-use Rattle.turn_model.specs.TurnDues.{gate_after, Fitting, fitting}
-use Rattle.turn_model.proofs.Joining.{lines_joined, gates_joined, fits_behind, fits_first}
-use Rattle.turn_model.proofs.Standing.{groups_joined}
+use Rattle.store_model.specs.TurnDues.{gate_after, Fitting, fitting}
+use Rattle.store_model.proofs.TurnJoining.{lines_joined, gates_joined, fits_behind, fits_first}
+use Rattle.store_model.proofs.TurnStanding.{groups_joined}
 use Rattle.store_journal.specs.Shown.{StoreState}
 use Rattle.store_journal.specs.Holding.{Holds}
 use Rattle.receiver.specs.declared.outcome.Received.{Received}

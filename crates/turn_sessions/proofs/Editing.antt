@@ -18,8 +18,8 @@ use Rattle.store_model.specs.Turns.{Receiving, Taken, part_of, taken_after, part
 use Rattle.store_model.proofs.WrittenGroups.{edit_facts}
 use Rattle.clone_resolve.specs.Steps.{cells_put}
 use Rattle.auditor.specs.Following.{blank}
-use Rattle.store_groups.specs.declared.place.Place.{Place}
-use Rattle.store_groups.specs.Placing.{further}
+use Rattle.group_replay.specs.declared.place.Place.{Place}
+use Rattle.group_replay.specs.Placing.{further}
 use Rattle.store_journal.proofs.Pushes.{all_push, canonical_push}
 use Rattle.receiver.specs.declared.outcome.Received.{Received}
 use Rattle.turn_sessions.specs.declared.part.OpenPart.{OpenPart}

@@ -7,8 +7,8 @@ use Rattle.sx_base.specs.declared.outcome.Verdict.{Verdict}
 use Rattle.send_model.specs.Guards.{Guard}
 use Rattle.store_model.specs.Turns as meant
 use Rattle.store_model.specs.Turns.{Turn, Turns, after_turn, one_turn, after_turns, session_turn}
-use Rattle.turn_model.specs.TurnDues.{which_long, TurnsEnd}
-use Rattle.turn_model.proofs.Overs.{turn_at, over_rests, over_ends}
+use Rattle.store_model.specs.TurnDues.{which_long, TurnsEnd}
+use Rattle.store_model.proofs.TurnOvers.{turn_at, over_rests, over_ends}
 use Rattle.store_journal.specs.Shown.{StoreState}
 use Rattle.turn_sessions.specs.declared.session.Session.{Session}
 use Rattle.turn_sessions.specs.Standing.{Blank, blank_cells, IsSession}

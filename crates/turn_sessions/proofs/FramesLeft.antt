@@ -14,12 +14,12 @@ use Rattle.send_model.proofs.Streams.{canonical_long}
 use Rattle.store_model.specs.Image.{Header, reserve}
 use Rattle.store_model.specs.Stored.{Group, IsEdit, edits_made}
 use Rattle.store_model.proofs.OneSaying.{frame_one}
-use Rattle.turn_model.proofs.Making.{edits_go}
-use Rattle.store_groups.specs.declared.place.Place.{Place}
-use Rattle.store_groups.specs.declared.stops.StoreStop.{StoreStop}
-use Rattle.store_groups.specs.declared.stops.StoreStop.TheVariants as stop
-use Rattle.store_groups.specs.Stopping.{IfLog, IfEnded, IsNoRefusal}
-use Rattle.store_groups.specs.Taking.{as_runs}
+use Rattle.store_model.proofs.TurnMaking.{edits_go}
+use Rattle.group_replay.specs.declared.place.Place.{Place}
+use Rattle.group_replay.specs.declared.stops.StoreStop.{StoreStop}
+use Rattle.group_replay.specs.declared.stops.StoreStop.TheVariants as stop
+use Rattle.group_replay.specs.Stopping.{IfLog, IfEnded, IsNoRefusal}
+use Rattle.group_replay.specs.Taking.{as_runs}
 use Rattle.store_journal.specs.Answers.{EditsIn}
 use Rattle.store_journal.specs.Filling.{Asked, first_full, piece_asks, IsStopOf}
 use Rattle.store_journal.specs.Shown.{StoreState}

@@ -25,9 +25,9 @@ use Rattle.store_model.specs.Dues.{Ends}
 use Rattle.store_model.specs.Turns as meant
 use Rattle.store_model.specs.Turns.{Event, Turn, Turns, after_turn, one_turn, after_turns, session_turn, lines_of, turn_groups, completed_parts}
 use Rattle.store_model.proofs.TurnOrder.{held_of, turn_kept}
-use Rattle.turn_model.specs.TurnDues.{bytes_read, which_long, is_long, is_empty, at_limit, Fitting, fitting, gate_after, room_of, TurnsEnd, turn_events, turns_end}
-use Rattle.turn_model.proofs.Ends.{turn_adds, end_goes, end_full, end_long}
-use Rattle.turn_model.proofs.Overs.{turn_at, events_at, over_does, going_does}
+use Rattle.store_model.specs.TurnDues.{bytes_read, which_long, is_long, is_empty, at_limit, Fitting, fitting, gate_after, room_of, TurnsEnd, turn_events, turns_end}
+use Rattle.store_model.proofs.TurnEnds.{turn_adds, end_goes, end_full, end_long}
+use Rattle.store_model.proofs.TurnOvers.{turn_at, events_at, over_does, going_does}
 use Rattle.cmd_reader.specs.Left.{Reader, left}
 use Rattle.cmd_reader.specs.Next.{GoesOn}
 use Rattle.auditor.specs.Following.{blank}

@@ -28,13 +28,13 @@ use Rattle.store_model.proofs.CellRuns.{made_all-cells, all_put_same}
 use Rattle.store_model.proofs.FilesInTurn.{all_new}
 use Rattle.store_model.proofs.TurnOrder.{entry_kept}
 use Rattle.store_model.proofs.TurnStates.{lines_are_complete}
-use Rattle.turn_model.specs.TurnCells.{recelled_receiving, recelled_session}
-use Rattle.turn_model.specs.TurnDues.{in_turns, files_read, shared, which_long, sessions_of, all_turns, room_of, TurnsEnd, turns_end, interleave_end}
-use Rattle.turn_model.proofs.Cells.{turns_cells, end_cells, ends_cells}
-use Rattle.turn_model.proofs.Joining.{lines_joined}
-use Rattle.turn_model.proofs.Standing.{groups_joined}
+use Rattle.store_model.specs.TurnCells.{recelled_receiving, recelled_session}
+use Rattle.store_model.specs.TurnDues.{in_turns, files_read, shared, which_long, sessions_of, all_turns, room_of, TurnsEnd, turns_end, interleave_end}
+use Rattle.store_model.proofs.TurnCells.{turns_cells, end_cells, ends_cells}
+use Rattle.store_model.proofs.TurnJoining.{lines_joined}
+use Rattle.store_model.proofs.TurnStanding.{groups_joined}
 use Rattle.auditor.specs.Following.{HaveSameShape, blank}
-use Rattle.store_groups.specs.declared.place.Place.{Place}
+use Rattle.group_replay.specs.declared.place.Place.{Place}
 use Rattle.store_journal.specs.Shown.{StoreState}
 use Rattle.store_journal.specs.Holding.{HasThese, Holds}
 use Rattle.receiver.specs.declared.outcome.Received.{Received}

@@ -35,7 +35,8 @@ places_all [] (suc i) le = refl
 places_all (x ∷ xs) zero le = absurd (omega (arith, le))
 places_all (x ∷ xs) (suc i) le = ap (λ (l : List ℕ). (x - 48) ∷ l) (places_all xs i (omega (arith, le)))
 
--- The turns of each session to its end, one session after the other: those of the first ones, and the turns of the next one behind them.
+-- The turns of each session to its end, one session after the other: those of the first ones, and
+-- the turns of the next one behind them.
 pub ends_next : (ss : List (meant.Session Blank)) (k n : ℕ) (f : meant.Session Blank) → slice_get ss n ≡ Some f → to_the_end k (drop n ss) ≡ replicate (suc (length f.items)) k ++ to_the_end (k + 1) (drop (n + 1) ss)
 unfolding to_the_end
 ends_next [] k n f e = cc

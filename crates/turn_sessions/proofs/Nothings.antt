@@ -12,7 +12,7 @@ use Rattle.sx_base.specs.declared.outcome.Outcome.TheVariants as ended
 use Rattle.store_model.specs.Image.{Header}
 use Rattle.store_model.specs.Stored.{Group}
 use Rattle.store_model.specs.Turns.{Event, completed_parts, lines_of, turn_groups}
-use Rattle.turn_model.specs.TurnDues.{fitting}
+use Rattle.store_model.specs.TurnDues.{fitting}
 use Rattle.group_log.proofs.GatedGroups.{rests_has}
 use Rattle.store_journal.specs.Shown.{StoreState}
 use Rattle.store_journal.specs.Holding.{bodies_of, Holds}
@@ -113,7 +113,8 @@ module _ {D : Type 0} (ghosts : keeping.Ghosts D) where
         );
   }
 
-  -- Nothing is sure where some calls were made: whatever a crash may leave at each moment stands then too.
+  -- Nothing is sure where some calls were made: whatever a crash may leave at each moment stands
+  -- then too.
   pub unsure_stopped : (old new : D) (was now : StoreState) (out next : Option (List ℕ)) (why : Received) (events : List Event) → IsSpent why → Appends out next [] → CountsNow old new
       → StopReason why was.log.limit was.log.gate events [] []
       → (ghosts.tells → (header : Header) (groups : List Group) → Holds header groups was (ghosts.seen old) (ghosts.pending old) → LeavesOnly ghosts.moment ghosts.left_since old new (HasFront header groups (turn_groups (reached why events))))

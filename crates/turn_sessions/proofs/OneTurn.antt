@@ -18,7 +18,7 @@ use Rattle.send_model.specs.Store.{Store}
 use Rattle.send_model.specs.Lengths as lengths
 use Rattle.store_model.specs.Turns.{Receiving, Session, Turn, receiving_after, turned, next_turn, session_turn}
 use Rattle.store_model.proofs.TurnOrder.{held_of}
-use Rattle.turn_model.proofs.Overs.{over_does, going_does}
+use Rattle.store_model.proofs.TurnOvers.{over_does, going_does}
 use Rattle.auditor.specs.Following.{blank}
 use Rattle.store_journal.specs.Shown.{StoreState}
 use Rattle.receiver.specs.declared.outcome.Received.{Received}

@@ -8,8 +8,8 @@ use Rattle.send_model.specs.Guards.{Guard}
 use Rattle.store_model.specs.Turns as meant
 use Rattle.store_model.specs.Turns.{sessions_from}
 use Rattle.store_model.proofs.TurnOrder.{held_of}
-use Rattle.turn_model.specs.TurnCells.{recelled_session}
-use Rattle.turn_model.specs.TurnDues.{bytes_read, files_read, shared}
+use Rattle.store_model.specs.TurnCells.{recelled_session}
+use Rattle.store_model.specs.TurnDues.{bytes_read, files_read, shared}
 use Rattle.cmd_reader.specs.Places.{IfTold}
 use Rattle.cmd_reader.specs.Left.{Reader, at_start, left, HasAhead}
 use Rattle.cmd_reader.proofs.Told.{told_map}

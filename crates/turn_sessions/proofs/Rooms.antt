@@ -1,4 +1,5 @@
--- Whether there is room for the group of an event, and where the next gate stands then: of the journal's calls, and of the definitions.
+-- Whether there is room for the group of an event, and where the next gate stands then: of the
+-- journal's calls, and of the definitions.
 use Rattle.std.specs.Prelude.{◌≡◌, ℕ, ◌+◌, List, [], ◌∷◌, length, map, Option, None, Some}
 use Rattle.std.specs.Option.{option_map}
 use Rattle.std.proofs.Common.{inl, inr, refl, sym, ap, ◌∙◌, arith}
@@ -8,8 +9,8 @@ use Rattle.send_model.specs.Reading.{Item}
 use Rattle.store_model.specs.Dues as dues
 use Rattle.store_model.specs.Dues.{Due, end_behind, pieces_from}
 use Rattle.store_model.specs.Turns.{Taken, Event, Begins, Completes}
-use Rattle.turn_model.specs.TurnDues.{event_pieces, gate_behind, Fitting, fitting}
-use Rattle.turn_model.proofs.Ends.{by_full, fitting_next}
+use Rattle.store_model.specs.TurnDues.{event_pieces, gate_behind, Fitting, fitting}
+use Rattle.store_model.proofs.TurnEnds.{by_full, fitting_next}
 use Rattle.group_log.specs.declared.stops.LogStop.{LogStop}
 use Rattle.group_log.specs.declared.stops.LogStop.TheVariants as log
 use Rattle.store_journal.specs.Filling as fill

@@ -4,9 +4,9 @@ use Rattle.std.proofs.Common.{inl, inr}
 use Rattle.sx_base.specs.Causes.{Rose}
 use Rattle.group_log.specs.declared.stops.LogStop.{LogStop}
 use Rattle.group_log.specs.declared.stops.LogStop.TheVariants as log
-use Rattle.store_groups.specs.declared.stops.StoreStop.{StoreStop}
-use Rattle.store_groups.specs.declared.stops.StoreStop.TheVariants as stop
-use Rattle.store_groups.specs.Stopping.{IfLog, IsNoRefusal}
+use Rattle.group_replay.specs.declared.stops.StoreStop.{StoreStop}
+use Rattle.group_replay.specs.declared.stops.StoreStop.TheVariants as stop
+use Rattle.group_replay.specs.Stopping.{IfLog, IsNoRefusal}
 use Rattle.store_journal.specs.Filling.{Asked, IsStopOf}
 use Rattle.store_journal.specs.Shown.{StoreState, IsIdle}
 use Rattle.receiver.specs.Answers as received

@@ -12,8 +12,8 @@ use Rattle.store_model.specs.Turns as meant
 use Rattle.store_model.specs.Turns.{Receiving, Turns, with_at, one_turn, session_turn}
 use Rattle.store_model.proofs.TurnOrder.{Kept, held_of, held_at, held_here, turn_kept}
 use Rattle.store_model.proofs.Moves.{Stands}
-use Rattle.turn_model.proofs.Making.{held_makes}
-use Rattle.turn_model.proofs.Overs.{turn_at}
+use Rattle.store_model.proofs.TurnMaking.{held_makes}
+use Rattle.store_model.proofs.TurnOvers.{turn_at}
 use Rattle.cmd_reader.specs.Places.{IfTold}
 use Rattle.cmd_reader.specs.Left.{HasAhead}
 use Rattle.auditor.specs.Following.{blank}

@@ -10,8 +10,8 @@ use Rattle.send_model.specs.Store.{Store, Stepped}
 use Rattle.send_model.specs.Guards.{Guard}
 use Rattle.store_model.specs.Stored.{Group}
 use Rattle.store_model.specs.Turns.{Event, Receiving, Turn, Turns}
-use Rattle.turn_model.specs.TurnDues.{in_turns, TurnsEnd}
-use Rattle.store_groups.specs.declared.place.Place.{Place}
+use Rattle.store_model.specs.TurnDues.{in_turns, TurnsEnd}
+use Rattle.group_replay.specs.declared.place.Place.{Place}
 use Rattle.store_journal.specs.Shown.{StoreState}
 use Rattle.receiver.specs.declared.outcome.Received.{Received}
 use Rattle.turn_sessions.specs.declared.part.OpenPart.{OpenPart}

@@ -10,15 +10,15 @@ use Rattle.store_model.specs.Image.{Header}
 use Rattle.store_model.specs.Stored.{Group}
 use Rattle.store_model.specs.Dues as dues
 use Rattle.store_model.specs.Turns.{Event, lines_of, turn_groups}
-use Rattle.turn_model.specs.TurnDues.{gate_after, fitting}
+use Rattle.store_model.specs.TurnDues.{gate_after, fitting}
 use Rattle.store_journal.specs.Shown.{StoreState, IsIdle}
 use Rattle.store_journal.specs.Holding.{Holds}
 use Rattle.receiver.specs.declared.outcome.Received.{Received}
 use Rattle.receiver.specs.declared.outcome.Received.TheVariants as how
 use Rattle.receiver.specs.Answers as received
 use Rattle.receiver.specs.Answers.{FaultCounts, ended_log}
-use Rattle.store_groups.specs.declared.stops.StoreStop.{StoreStop}
-use Rattle.store_groups.specs.declared.stops.StoreStop.TheVariants as stop
+use Rattle.group_replay.specs.declared.stops.StoreStop.{StoreStop}
+use Rattle.group_replay.specs.declared.stops.StoreStop.TheVariants as stop
 use Rattle.receiver.specs.Disks.{HasFront, EndLeaves}
 
 -- An object of the outside failed only where its count of faults rose.
@@ -74,7 +74,8 @@ reached (how.Files outcome) more = more
 reached how.StoreFault more = more
 reached (how.LogFull end wanted limit) more = []
 
--- Why turns stop: of an output that failed some bytes are missing, and where there is no room the first events that have it are done.
+-- Why turns stop: of an output that failed some bytes are missing, and where there is no room the
+-- first events that have it are done.
 abbrev pub OutcomeReason : Outcome → (unwritten : List ℕ) → Type 0
 OutcomeReason ended.OutputFault unwritten = 0 < length unwritten
 OutcomeReason ended.NoMemory unwritten = ⊤
@@ -90,7 +91,8 @@ StopReason (how.Files outcome) most gate events done unwritten = OutcomeReason o
 StopReason how.StoreFault most gate events done unwritten = ⊤
 StopReason (how.LogFull end wanted limit) most gate events done unwritten = (unwritten ≡ []) × (fitting most gate events ≡ record { events = done; full = Some (dues.LogFull end wanted limit) })
 
--- What turns work on: the disk, the store that is there, and what was written, where the output tells.
+-- What turns work on: the disk, the store that is there, and what was written, where the output
+-- tells.
 pub record Work (D : Type 0) : Type 0 where
   pub disk : D
   pub store : StoreState
@@ -113,8 +115,8 @@ module _ {D : Type 0} (run : Run D) where
   abbrev pub OfGroups : (Header → List Group → Type 0) → Type 0
   OfGroups P = run.ghosts.tells → (header : Header) (groups : List Group) → Holds header groups run.old.store (run.ghosts.seen run.old.disk) (run.ghosts.pending run.old.disk) → P header groups
 
-  -- The events were done: their lines stand behind what was written before, and their groups behind those that there were; at each moment a
-  -- crash left the first of these.
+  -- The events were done: their lines stand behind what was written before, and their groups behind
+  -- those that there were; at each moment a crash left the first of these.
   pub record HasDone (events : List Event) : Type 0 where
     pub wrote : Appends run.old.out run.new.out (lines_of events)
     pub room : (fitting run.old.store.log.limit run.old.store.log.gate events).full ≡ None
@@ -123,7 +125,8 @@ module _ {D : Type 0} (run : Run D) where
     pub disk : OfGroups (λ header groups. Holds header (groups ++ turn_groups events) run.new.store (run.ghosts.seen run.new.disk) (run.ghosts.pending run.new.disk)
         × LeavesOnly run.ghosts.moment run.ghosts.left_since run.old.disk run.new.disk (HasFront header groups (turn_groups events)))
 
-  -- They stopped in these events: the first ones are done, and their lines, or a front part of them, were written.
+  -- They stopped in these events: the first ones are done, and their lines, or a front part of
+  -- them, were written.
   pub record HasStopped (why : Received) (events : List Event) : Type 0 where
     pub done : List Event
     pub more : List Event

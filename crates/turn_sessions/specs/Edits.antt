@@ -10,10 +10,10 @@ use Rattle.send_model.specs.Store.{Store, Part, State, edit_part}
 use Rattle.store_model.specs.Stored.{Body, body_at, IsEdit, edits_made, made}
 use Rattle.group_log.specs.declared.stops.LogStop.{LogStop}
 use Rattle.group_log.specs.declared.stops.LogStop.TheVariants as log
-use Rattle.store_groups.specs.declared.place.Place.{Place}
-use Rattle.store_groups.specs.declared.stops.StoreStop.{StoreStop}
-use Rattle.store_groups.specs.declared.stops.StoreStop.TheVariants as stop
-use Rattle.store_groups.specs.Taking.{as_runs, open_state}
+use Rattle.group_replay.specs.declared.place.Place.{Place}
+use Rattle.group_replay.specs.declared.stops.StoreStop.{StoreStop}
+use Rattle.group_replay.specs.declared.stops.StoreStop.TheVariants as stop
+use Rattle.group_replay.specs.Taking.{as_runs, open_state}
 use Rattle.store_journal.specs.Shown.{StoreState}
 use Rattle.store_journal.specs.Filling.{Asked, group_asks}
 
@@ -48,7 +48,8 @@ frame_asks version place (c ∷ commands) = record { place = place; wanted = len
 abbrev pub body_asks : ℕ → ℕ → List Command → List Asked
 body_asks version gate commands = group_asks gate 18 ++ frame_asks version (gate + 27) commands
 
--- Where there was no memory, P holds, or the store may not be used again, as where its journal stopped.
+-- Where there was no memory, P holds, or the store may not be used again, as where its journal
+-- stopped.
 abbrev pub IfStopped : {T : Type 0} → Result T StoreStop → StoreState → Type 0 → Type 0
 IfStopped (Ok x) store P = ⊤
 IfStopped (Err (stop.Refused refusal)) store P = ⊥

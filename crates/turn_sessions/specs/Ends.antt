@@ -9,18 +9,19 @@ use Rattle.store_model.specs.Dues as dues
 use Rattle.store_model.specs.Dues.{Due, Ends}
 use Rattle.store_model.specs.Turns.{Event, at_entry, lines_of, turn_groups}
 use Rattle.store_model.specs.TurnLaws.{IsTurnState, AreOneByOne}
-use Rattle.turn_model.specs.TurnDues.{InTurns, sessions_of, Room, room_of, all_turns, interleave_end}
-use Rattle.turn_model.specs.TurnAnswers.{taken_turns}
+use Rattle.store_model.specs.TurnDues.{InTurns, sessions_of, Room, room_of, all_turns, interleave_end}
+use Rattle.store_model.specs.TurnAnswers.{taken_turns}
 use Rattle.auditor.specs.Following.{HaveSameShape}
 use Rattle.sx_base.specs.Refusals.{verdict_meant}
 use Rattle.sx_base.specs.declared.outcome.Outcome.{Outcome}
 use Rattle.sx_base.specs.declared.outcome.Verdict.{Verdict}
 use Rattle.sx_base.specs.declared.outcome.Outcome.TheVariants as ended
-use Rattle.store_groups.specs.declared.place.Place.{Place}
+use Rattle.group_replay.specs.declared.place.Place.{Place}
 use Rattle.receiver.specs.declared.outcome.Received.{Received}
 use Rattle.receiver.specs.declared.outcome.Received.TheVariants as how
 
--- A schedule is written in digits, each of which is the place of a session, of which there are so many.
+-- A schedule is written in digits, each of which is the place of a session, of which there are so
+-- many.
 abbrev pub ArePlaces : (count : ℕ) → List ℕ → Type 0
 ArePlaces count schedule = AllByRecursion (λ digit. (48 ≤ digit) × (digit - 48 < count)) schedule
 
@@ -32,7 +33,8 @@ abbrev pub end_of : Option Verdict → Received
 end_of None = how.Files ended.Done
 end_of (Some verdict) = how.Files (ended.Refused verdict)
 
--- Where the answer is one that files decide, the store has what is left, but for what its cells carry.
+-- Where the answer is one that files decide, the store has what is left, but for what its cells
+-- carry.
 abbrev pub OutcomeLeaves : Outcome → Type 0 → Type 0
 OutcomeLeaves ended.Done P = P
 OutcomeLeaves (ended.Refused verdict) P = P
@@ -48,7 +50,8 @@ IfStands (how.Files outcome) P = OutcomeLeaves outcome P
 IfStands how.StoreFault P = ⊤
 IfStands (how.LogFull end wanted limit) P = ⊤
 
--- What turns are to do: the room in the store, the subvolumes that there are, and the files that take turns.
+-- What turns are to do: the room in the store, the subvolumes that there are, and the files that
+-- take turns.
 pub record ToTake : Type 0 where
   pub room : Room
   pub base : Store ℕ
@@ -85,9 +88,10 @@ module _ (task : ToTake) where
   AnswerIs how.StoreFault first unwritten = ⊤
   AnswerIs (how.LogFull end wanted limit) first unwritten = IsDue (dues.LogFull end wanted limit) first × (unwritten ≡ [])
 
-  -- Some first events were done, and H holds of their groups: these make a store that is one after some first turns, or after these and the
-  -- completion of the next one, in which the parts are complete as if they had been received one after the other; and each part is of whose
-  -- line something was written.
+  -- Some first events were done, and H holds of their groups: these make a store that is one after
+  -- some first turns, or after these and the completion of the next one, in which the parts are
+  -- complete as if they had been received one after the other; and each part is of whose line
+  -- something was written.
   pub record AreDone (why : Received) (core : Store (Option Place)) (written : List ℕ) (H : List Group → Type 0) : Type 0 where
     pub first : List Event
     pub more : List Event

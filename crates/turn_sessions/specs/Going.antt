@@ -19,7 +19,7 @@ use Rattle.store_model.specs.Dues.{Ends}
 use Rattle.store_model.specs.Turns as meant
 use Rattle.store_model.specs.Turns.{Event, Turns, after_turns, turn_groups}
 use Rattle.store_model.proofs.TurnOrder.{Kept}
-use Rattle.turn_model.specs.TurnDues.{bytes_read, which_long, room_of, TurnsEnd, turns_end}
+use Rattle.store_model.specs.TurnDues.{bytes_read, which_long, room_of, TurnsEnd, turns_end}
 use Rattle.receiver.specs.declared.outcome.Received.{Received}
 use Rattle.receiver.specs.declared.outcome.Received.TheVariants as how
 use Rattle.turn_sessions.specs.declared.session.Session.{Session}
@@ -29,7 +29,8 @@ use Rattle.turn_sessions.specs.Turning.{HasVersion, IfTooLong, bytes_left}
 
 -- ---- whether or not the inputs tell
 
--- A session's reader is that of its file, which has this number and this name; and the bytes that it was given are the file's.
+-- A session's reader is that of its file, which has this number and this name; and the bytes that
+-- it was given are the file's.
 pub record IsReading {G : Type 0} (told : Option (List (List ℕ × List ℕ))) (number : ℕ) (name : List ℕ) (session : Session G) : Type 0 where
   pub file : session.file ≡ number
   pub own : session.reader.file ≡ number
@@ -121,8 +122,8 @@ DueIs (how.Files (ended.TooMuch sum)) end done unwritten = ⊥
 DueIs (how.Files (ended.InputChanged file place)) end done unwritten = ⊥
 DueIs how.StoreFault end done unwritten = ⊤
 
--- Turns on their way: the files, what the turns so far led to, and those that are still to be taken; and the end that is due to all of
--- them, with what they leave.
+-- Turns on their way: the files, what the turns so far led to, and those that are still to be
+-- taken; and the end that is due to all of them, with what they leave.
 pub record Course : Type 0 where
   pub files : List (List ℕ)
   pub taken : Turns Blank
@@ -134,8 +135,8 @@ abbrev pub course_of : List (List ℕ) → (taken : Turns Blank) → (rest : Lis
 course_of files taken rest end last = record { files = files; taken = taken; rest = rest; end = end; last = last }
 
 module _ {D : Type 0} (run : Run D) where
-  -- Some turns were taken, from a store with the subvolumes that there were at first. The verdict is that of the session that was refused
-  -- first, if one was.
+  -- Some turns were taken, from a store with the subvolumes that there were at first. The verdict
+  -- is that of the session that was refused first, if one was.
   pub record IsGoing {G : Type 0} (kept : G → List Guard) (course : Course) (refused : Option Verdict) (sessions : List (Session G)) : Type 0 where
     pub taking : AreTaking kept sessions (blank run.new.store.core) course.taken
     pub from : taking.base ≡ blank run.old.store.core
@@ -145,7 +146,8 @@ module _ {D : Type 0} (run : Run D) where
     pub runs : course.last ≡ after_turns tt blank_cells course.taken course.rest
     pub done : HasDone run course.taken.events
 
-  -- They stopped, in the first of the events of all turns. At a limit the store has what these made of it, but for what cells carry.
+  -- They stopped, in the first of the events of all turns. At a limit the store has what these made
+  -- of it, but for what cells carry.
   pub record HasEnded (why : Received) (end : TurnsEnd) (last : Turns Blank) : Type 0 where
     pub stopped : HasStopped run why last.events
     pub due : DueIs why end stopped.done stopped.unwritten

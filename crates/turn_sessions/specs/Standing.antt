@@ -1,5 +1,5 @@
--- What stands between two turns: the store, and the sessions with their open parts, against those of the definitions over cells that carry
--- nothing. This program's own.
+-- What stands between two turns: the store, and the sessions with their open parts, against those
+-- of the definitions over cells that carry nothing. This program's own.
 use Rattle.std.specs.Prelude.{◌≡◌, ⊤, ℕ, Bool, true, List, [], ◌∷◌, map, Option, None, Some}
 use Rattle.std.specs.List.{AllByRecursion}
 use Rattle.send_model.specs.Command.{Command}
@@ -31,7 +31,8 @@ blank_cells item = blank_put 0 (bytes_of item.command)
 abbrev pub edits_of : Receiving Blank → List Command
 edits_of r = map (λ item. item.command) r.taken.edits
 
--- The part of a session, but for what its cells carry: with its line, and the frames of its edits in the version of its head.
+-- The part of a session, but for what its cells carry: with its line, and the frames of its edits
+-- in the version of its head.
 pub record IsPart (r : Receiving Blank) (current : OpenPart) : Type 0 where
   pub part : r.part ≡ recelled_part (λ _. tt) current.part
   pub uuid : part_uuid r.taken ≡ r.part.key.uuid

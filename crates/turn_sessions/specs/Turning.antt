@@ -71,8 +71,8 @@ EditSays item old_part after current (Err why) = ⊤
 abbrev pub bytes_left : {G : Type 0} → Session G → ℕ
 bytes_left session = if session.is_over then 0 else limit + 1 - session.reader.offset
 
--- A session that is over reads nothing, and any other one does; only at a command there may be no room, and only at the limit its file is
--- too long.
+-- A session that is over reads nothing, and any other one does; only at a command there may be no
+-- room, and only at the limit its file is too long.
 abbrev pub ReadsNext : Next → Bool → Type 0
 ReadsNext (Command item) over = over ≡ false
 ReadsNext AtEnd over = over ≡ false
@@ -125,7 +125,8 @@ abbrev pub ReadsAs : {G : Type 0} → Result (Option Verdict) Received → Next 
 ReadsAs (Ok refused) next before = ReadsNext next before.is_over
 ReadsAs (Err why) next before = StopsAt why next before
 
--- What is to be done with a command: its item, the part that was open, what its step leaves, and its events.
+-- What is to be done with a command: its item, the part that was open, what its step leaves, and
+-- its events.
 pub record ToDo : Type 0 where
   pub item : Item
   pub part : Option (Receiving Blank)
@@ -177,7 +178,8 @@ module _ {D : Type 0} (run : Run D) where
   TurnSays kept t session (Ok refused) = IsTurn kept t session refused
   TurnSays kept t session (Err why) = HasStopped run why t.events
 
-  -- What is read next of the session's file, and what the turn of each session that has this to read does.
+  -- What is read next of the session's file, and what the turn of each session that has this to
+  -- read does.
   pub record TakesTurn {G : Type 0} (kept : G → List Guard) (told : Option (List (List ℕ × List ℕ))) (before after : Session G) (result : Result (Option Verdict) Received) : Type 0 where
     pub next : Next
     pub read : IfTold told before.reader.name (WasLeft before.reader after.reader next)

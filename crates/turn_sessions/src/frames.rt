@@ -9,9 +9,9 @@ ghost use Rattle.send_model.specs.Subvolume.{Subvolume};
 ghost use Rattle.send_model.specs.Store.{State};
 ghost use Rattle.store_model.specs.Image.{Header};
 ghost use Rattle.store_model.specs.Stored.{Group};
-ghost use Rattle.store_groups.specs.declared.place.Place as here;
-ghost use Rattle.store_groups.specs.Stopping.{IfLog, IsNoRefusal};
-ghost use Rattle.store_groups.specs.Taking.{open_state};
+ghost use Rattle.group_replay.specs.declared.place.Place as here;
+ghost use Rattle.group_replay.specs.Stopping.{IfLog, IsNoRefusal};
+ghost use Rattle.group_replay.specs.Taking.{open_state};
 ghost use Rattle.store_journal.specs.Filling.{first_full, piece_asks, IsStopOf};
 ghost use Rattle.store_journal.specs.Shown.{IsOpen};
 ghost use Rattle.store_journal.specs.Holding.{HasThese, Builds, in_progress};
@@ -20,8 +20,8 @@ ghost use Rattle.turn_sessions.specs.Edits.{AreFrames, AreMade, IsFront, IsTaken
 
 use clone_resolve::Part;
 use cmd_reader::canonical_command;
+use group_replay::{Place, StoreStop};
 use send_commands::Command;
-use store_groups::{Place, StoreStop};
 use store_journal::Store;
 use sx_base::Disk;
 use tlv_frame::{FRAME_HEAD_LEN, frame_in};

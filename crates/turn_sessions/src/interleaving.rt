@@ -9,7 +9,7 @@ ghost use Rattle.send_model.specs.Store as model_store;
 ghost use Rattle.store_model.specs.Image.{Header};
 ghost use Rattle.store_model.specs.Stored.{Group};
 ghost use Rattle.store_model.specs.Turns.{turns_of, turn_groups};
-ghost use Rattle.turn_model.specs.TurnDues.{in_turns, files_read, shared};
+ghost use Rattle.store_model.specs.TurnDues.{in_turns, files_read, shared};
 ghost use Rattle.auditor.specs.Following.{HaveSameShape};
 ghost use Rattle.store_journal.specs.Shown.{IsIdle};
 ghost use Rattle.store_journal.specs.Holding.{Holds};
@@ -26,11 +26,13 @@ use receiver::{Guarding, Received};
 use store_journal::Store;
 use sx_base::{Disk, Inputs, Outcome, Sink, Verdict};
 
-/// Receives the streams in the files into the store, one session for each file, with its own guards. The sessions take turns, in each of
-/// which one command of the session's file is read, looked at by its guards, and done: first one turn for each digit of the schedule,
-/// of the session of that number, and then each session goes on to its end. A head begins its part, whose group is written and
-/// published once the part is complete; then `out` gets its line, `complete NAME UUID CTRANSID`. A session that is refused is over,
-/// its part stays unfinished, and the others go on; the answer is the verdict of the one that was refused first.
+/// Receives the streams in the files into the store, one session for each file, with its own
+/// guards. The sessions take turns, in each of which one command of the session's file is read,
+/// looked at by its guards, and done: first one turn for each digit of the schedule, of the session
+/// of that number, and then each session goes on to its end. A head begins its part, whose group is
+/// written and published once the part is complete; then `out` gets its line, `complete NAME UUID
+/// CTRANSID`. A session that is refused is over, its part stays unfinished, and the others go on;
+/// the answer is the verdict of the one that was refused first.
 pub fn interleave<I: Inputs, O: Sink, D: Disk, G: Guarding + Drop>(
     task: &Task<'_>,
     store: &mut Store,

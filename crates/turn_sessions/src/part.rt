@@ -5,13 +5,13 @@ ghost use Rattle.store_model.specs.States.{complete_line};
 ghost use Rattle.clone_resolve.specs.Heads.{head_meant};
 
 use clone_resolve::{Head, Part};
+use group_replay::Place;
 use std::alloc::{AllocError, Global};
-use store_groups::Place;
 use stream_dump::{push_decimal, push_uuid};
 use sx_base::{Blob, escape_into};
 
-// A part that is open: its subvolume so far, whose bytes stand nowhere yet; the line that says that it is complete; and the frames of
-// its edits, in their version.
+// A part that is open: its subvolume so far, whose bytes stand nowhere yet; the line that says that
+// it is complete; and the frames of its edits, in their version.
 #[derive(Drop)]
 pub(crate) struct OpenPart {
     pub(crate) part: Part<Place>,

@@ -77,8 +77,8 @@ fn verdict_at(file: u64, item: &Item<'_>, refusal: Refusal) -> Verdict
     }
 }
 
-// One turn: the next command is read and done. The verdict is that of a session that is refused now; it is over then, and so is one at
-// its file's end. A session that is over does nothing.
+// One turn: the next command is read and done. The verdict is that of a session that is refused
+// now; it is over then, and so is one at its file's end. A session that is over does nothing.
 pub(crate) fn take_turn<I: Inputs, O: Sink, D: Disk, G: Guarding + Drop>(
     alloc: Global,
     store: &mut Store,
@@ -181,8 +181,8 @@ fn is_refused(turned: &Result<Option<Verdict>, Received>) -> bool
     }
 }
 
-// One turn with the command that was read, of the session with these guards and this part. A session whose command is refused is over
-// then, and has no part.
+// One turn with the command that was read, of the session with these guards and this part. A
+// session whose command is refused is over then, and has no part.
 fn do_turn<O: Sink, D: Disk, G: Guarding + Drop>(
     read: &FileItem<'_, '_>,
     store: &mut Store,

@@ -3,7 +3,8 @@ use cmd_reader::Item;
 use std::alloc::Global;
 use sx_base::Verdict;
 
-/// What is to be received in turns: files by their names, and the digits of the schedule. And where memory comes from.
+/// What is to be received in turns: files by their names, and the digits of the schedule. And where
+/// memory comes from.
 #[derive(Debug, Drop)]
 pub struct Task<'a> {
     /// Where memory comes from.
@@ -22,14 +23,16 @@ pub(crate) struct FileItem<'a, 'b> {
     pub(crate) item: &'a Item<'b>,
 }
 
-// The verdict of the session that was refused first, if one was until now. And where memory comes from.
+// The verdict of the session that was refused first, if one was until now. And where memory comes
+// from.
 #[derive(Debug, Drop)]
 pub(crate) struct Turned {
     pub(crate) alloc: Global,
     pub(crate) refused: Option<Verdict>,
 }
 
-// The place of a session, and the verdict of the one that was refused first, if one was until now. And where memory comes from.
+// The place of a session, and the verdict of the one that was refused first, if one was until now.
+// And where memory comes from.
 #[derive(Debug, Drop)]
 pub(crate) struct Turn {
     pub(crate) alloc: Global,

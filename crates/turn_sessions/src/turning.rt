@@ -10,7 +10,7 @@ ghost use Rattle.sx_base.specs.Refusals.{verdict_meant};
 ghost use Rattle.send_model.specs.Receive.{first_of};
 ghost use Rattle.store_model.specs.Turns as meant;
 ghost use Rattle.store_model.specs.Turns.{Turns, after_turns, one_turn, to_the_end};
-ghost use Rattle.turn_model.specs.TurnDues.{TurnsEnd};
+ghost use Rattle.store_model.specs.TurnDues.{TurnsEnd};
 ghost use Rattle.auditor.specs.Following.{blank};
 ghost use Rattle.store_journal.specs.Shown.{StoreState, IsIdle};
 ghost use Rattle.receiver.specs.Answers.{fault_counts, IsEnd};

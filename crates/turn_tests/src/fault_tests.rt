@@ -7,8 +7,8 @@ use crate::turn_tests::{
 use disk_model::{FlakyDisk, FuseDisk, MemDisk};
 use std::alloc::Global;
 use std::test::Fail;
+use store_commands::StoreEnd;
 use store_journal::Store;
-use store_words::StoreEnd;
 use sx_base::{MemSink, Outcome};
 use turn_sessions::{Task, interleave_store};
 
@@ -32,7 +32,8 @@ fn entries_in(store: &Store) -> (u64, u64) {
     (complete, others)
 }
 
-// How many lines of the parts stand whole in what was written, `c` first. None where anything else stands there.
+// How many lines of the parts stand whole in what was written, `c` first. None where anything else
+// stands there.
 fn lines_in(written: &[u8]) -> Option<u64> {
     if written.is_empty() {
         return Some(0);
@@ -46,7 +47,8 @@ fn lines_in(written: &[u8]) -> Option<u64> {
     None
 }
 
-// Whether a store can be opened that has a complete entry for each line, two entries at the most, and no others.
+// Whether a store can be opened that has a complete entry for each line, two entries at the most,
+// and no others.
 fn is_there(alloc: Global, disk: &mut MemDisk, written: &[u8]) -> Result<bool, Fail> {
     let Some(lines) = lines_in(written) else {
         return Ok(false);
@@ -63,7 +65,8 @@ fn is_told(end: StoreEnd, written: &[u8]) -> bool {
     end == StoreEnd::StoreFault || (end == DONE && lines_in(written) == Some(2))
 }
 
-// Whether a disk that stops after some calls has, whatever a loss of power makes of it, what was acknowledged.
+// Whether a disk that stops after some calls has, whatever a loss of power makes of it, what was
+// acknowledged.
 fn stop_is_survived(alloc: Global, calls: u64) -> Result<bool, Fail> {
     let mut disk = FuseDisk::new(new_store(alloc)?, calls);
     let mut out = MemSink::new(alloc);

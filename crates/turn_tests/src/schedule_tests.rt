@@ -1,14 +1,15 @@
-// Every schedule of eight turns over two files, against receiving the completed parts one after the other.
+// Every schedule of eight turns over two files, against receiving the completed parts one after the
+// other.
 use crate::same::same;
 use crate::turn_tests::{
     A, B, C, DONE, Files, LINE_A, LINES_AB, LINES_AC, LINES_CA, both_guards, input_files,
     interleaved, new_store, refusal,
 };
 use disk_model::MemDisk;
-use part_names::{NamedFiles, PartNames};
+use part_names::{NamedFiles, Overrides};
 use std::alloc::Global;
 use std::test::Fail;
-use store_words::{StoreEnd, receive_store, show_entry};
+use store_commands::{StoreEnd, receive_store, show_entry};
 use sx_base::{MemSink, Refusal};
 
 // The schedule of eight turns that a number gives.
@@ -22,7 +23,8 @@ fn schedule_of(number: u32) -> [u8; 8] {
     schedule
 }
 
-// How often the first session has its turn before the second one has its first, and whether that has one.
+// How often the first session has its turn before the second one has its first, and whether that
+// has one.
 fn turns_before(schedule: &[u8]) -> (u64, bool) {
     let mut count = 0u64;
     for i in 0..schedule.len() {
@@ -43,7 +45,8 @@ fn shows_same(alloc: Global, one: &mut MemDisk, other: &mut MemDisk, name: &[u8]
     end == DONE && other_end == DONE && shown.bytes() == again.bytes()
 }
 
-// Whether receiving files one after the other writes these lines and leaves the subvolumes of these names as a store has them.
+// Whether receiving files one after the other writes these lines and leaves the subvolumes of these
+// names as a store has them.
 fn is_one_by_one(
     alloc: Global,
     disk: &mut MemDisk,
@@ -61,11 +64,11 @@ fn is_one_by_one(
     let Some(mut own) = guards.pop() else {
         return Ok(false);
     };
-    let names_of_parts = PartNames::none(alloc);
+    let names_of_parts = Overrides::none(alloc);
     let given = NamedFiles {
         alloc,
         files: &files,
-        names: &names_of_parts,
+        overrides: &names_of_parts,
     };
     let end = receive_store(&given, &mut other, &mut inputs, &mut own, &mut out);
     let mut is_same = end == DONE && out.bytes() == lines;
@@ -75,7 +78,8 @@ fn is_one_by_one(
     Ok(is_same)
 }
 
-// Whether a schedule over `a` and `c` leaves what receiving them in the order of their completion leaves.
+// Whether a schedule over `a` and `c` leaves what receiving them in the order of their completion
+// leaves.
 fn apart_is_right(alloc: Global, number: u32) -> Result<bool, Fail> {
     let schedule = schedule_of(number);
     let mut disk = new_store(alloc)?;
@@ -90,7 +94,8 @@ fn apart_is_right(alloc: Global, number: u32) -> Result<bool, Fail> {
     Ok(end == DONE && in_order)
 }
 
-// Whether a schedule over `a` and its snapshot is refused where the snapshot begins before `a` is complete, and only there.
+// Whether a schedule over `a` and its snapshot is refused where the snapshot begins before `a` is
+// complete, and only there.
 fn behind_is_right(alloc: Global, number: u32) -> Result<bool, Fail> {
     let schedule = schedule_of(number);
     let mut disk = new_store(alloc)?;
@@ -111,7 +116,8 @@ fn behind_is_right(alloc: Global, number: u32) -> Result<bool, Fail> {
     )
 }
 
-// Whether a schedule over `a`, whose guard refuses its WRITE, and `c` is refused there, and `c` is complete.
+// Whether a schedule over `a`, whose guard refuses its WRITE, and `c` is refused there, and `c` is
+// complete.
 fn guarded_is_right(alloc: Global, number: u32) -> Result<bool, Fail> {
     let schedule = schedule_of(number);
     let mut disk = new_store(alloc)?;

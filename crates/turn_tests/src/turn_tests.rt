@@ -6,8 +6,8 @@ use guard_rules::{AnyGuard, GuardSpec};
 use receiver::GuardList;
 use std::alloc::{AllocError, Global};
 use std::test::Fail;
+use store_commands::{StoreEnd, list_store};
 use store_journal::Store;
-use store_words::{StoreEnd, list_store};
 use sx_base::{Disk, MemInputs, MemSink, Outcome, Refusal, Verdict};
 use turn_sessions::{Task, interleave_store};
 
@@ -89,8 +89,8 @@ pub(crate) fn new_store(alloc: Global) -> Result<MemDisk, Fail> {
     Ok(disk)
 }
 
-// How two files that take turns end, the first under a guard of so many bytes. An error where a digit of the schedule is no file's, or
-// there are not as many files.
+// How two files that take turns end, the first under a guard of so many bytes. An error where a
+// digit of the schedule is no file's, or there are not as many files.
 pub(crate) fn interleaved<D: Disk>(
     alloc: Global,
     disk: &mut D,

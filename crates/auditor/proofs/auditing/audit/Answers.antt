@@ -6,12 +6,12 @@ use Rattle.auditor.proofs.auditing.audit.Goals as goal
 
 pub returns-in-Ok-clause-audited : goal.returns-in-Ok-clause-audited
 returns-in-Ok-clause-audited g c = λ store same.
-    audit_accepts _ c.args.given.now.names.now (map string_bytes c.args.given.now.files.now) c.args.core store _ c.new-follower.result c.follow_files.result c.in-Ok.totals _ _ _ _ c.write_accepted.result
+    audit_accepts _ c.args.given.now.overrides.now (map string_bytes c.args.given.now.files.now) c.args.core store _ c.new-follower.result c.follow_files.result c.in-Ok.totals _ _ _ _ c.write_accepted.result
     same c.new-follower.ensures.start c.in-Ok.is c.follow_files.ensures.followed c.write_accepted.ensures.written
 
 pub returns-clause-audited : goal.returns-clause-audited
 returns-clause-audited g c = λ store same.
-    audit_stops _ c.args.given.now.names.now (map string_bytes c.args.given.now.files.now) c.args.core store _ c.new-follower.result c.follow_files.result _ c.in-Err.outcome
+    audit_stops _ c.args.given.now.overrides.now (map string_bytes c.args.given.now.files.now) c.args.core store _ c.new-follower.result c.follow_files.result _ c.in-Err.outcome
     same c.new-follower.ensures.start c.in-Err.is c.follow_files.ensures.followed
 
 pub returns-in-Ok-clause-steady : goal.returns-in-Ok-clause-steady

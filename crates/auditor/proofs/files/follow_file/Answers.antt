@@ -1,6 +1,5 @@
 use Rattle.std.specs.Prelude.{None, Some}
 use Rattle.std.proofs.Common.{refl, ap, ◌∙◌, arith}
-use Rattle.std.specs.Option.{option_copied}
 use Rattle.cmd_reader.specs.Left.{Reader}
 use Rattle.sx_base.specs.declared.outcome.Outcome.TheVariants as ended
 use Rattle.cmd_reader.specs.declared.item.ReadStop.TheVariants as stop
@@ -29,14 +28,14 @@ loop-frame-init g c =
       near = omega (arith, ap (λ (r : Reader). r.number) fresh);
       within = omega (arith, ap (λ (r : Reader). r.offset) fresh);
       fewer = omega (arith, c.none-counts.ensures.parts);
-      stands = stands_at_start (g.I.Inputs.told c.args.inputs.now) (option_copied c.args.file.now.new_name) c.args.file.now.number c.args.file.now.name.now c.in-Ok.reader _ _ _ fresh c.none-counts.ensures.parts c.none-counts.ensures.commands;
+      stands = stands_at_start (g.I.Inputs.told c.args.inputs.now) (c.args.file.now.said.now) c.args.file.now.number c.args.file.now.name.now c.in-Ok.reader _ _ _ fresh c.none-counts.ensures.parts c.none-counts.ensures.commands;
       ahead = start_ahead _ c.args.file.now.number c.args.file.now.name.now c.in-Ok.reader fresh;
     }
 
 pub returns-in-Ok-None-clause-followed : goal.returns-in-Ok-None-clause-followed
 returns-in-Ok-None-clause-followed g c =
     let i = c.loop-frame.invariant in
-    file_ends _ _ (option_copied c.args.file.now.new_name) c.args.file.now.number c.args.file.now.name.now _ c.loop-frame.reader c.advance.new.self _ c.loop-frame.counts 0 0 None refl i.same i.name
+    file_ends _ _ (c.args.file.now.said.now) c.args.file.now.number c.args.file.now.name.now _ c.loop-frame.reader c.advance.new.self _ c.loop-frame.counts 0 0 None refl i.same i.name
     (ended_next (g.I.Inputs.told c.loop-frame.inputs) c.loop-frame.reader c.advance.new.self c.in-Ok-None.field-0 c.in-Ok-None.field-0-is c.in-Ok-None.ensures.says) i.stands
 
 pub follow_named-requires-clause-short : goal.follow_named-requires-clause-short
@@ -48,7 +47,7 @@ pub returns-in-Err-follow_named-clause-followed : goal.returns-in-Err-follow_nam
 returns-in-Err-follow_named-clause-followed g c =
     let i = c.loop-frame.invariant in
     let given = given_next (g.I.Inputs.told c.loop-frame.inputs) c.loop-frame.reader c.advance.new.self c.in-Ok-Some.field-0 c.in-Ok-Some.frame c.in-Ok-item.item c.in-Ok-Some.field-0-is c.in-Ok-Some.ensures.says c.item.ensures.bytes c.in-Ok-item.ensures.says in
-    item_ends _ _ (option_copied c.args.file.now.new_name) c.args.file.now.number c.args.file.now.name.now _ c.loop-frame.reader c.advance.new.self _ _ c.loop-frame.counts.parts c.loop-frame.counts.commands 0 0
+    item_ends _ _ (c.args.file.now.said.now) c.args.file.now.number c.args.file.now.name.now _ c.loop-frame.reader c.advance.new.self _ _ c.loop-frame.counts.parts c.loop-frame.counts.commands 0 0
     (Some c.in-Ok-item.item) c.in-Ok-item.item c.follow_named.result c.in-Err-follow_named.outcome refl i.same i.name i.file given.read c.in-Err-follow_named.is c.follow_named.ensures.followed i.stands
 
 pub loop-frame-preserved : goal.loop-frame-preserved
@@ -68,7 +67,7 @@ loop-frame-preserved g c =
       near = omega (arith, m.next_number, m.further, i.near);
       within = m.within;
       fewer = c.with-counts.ensures.fewer;
-      stands = stands_after _ _ (option_copied c.args.file.now.new_name) c.args.file.now.number c.args.file.now.name.now _ c.loop-frame.reader c.advance.new.self _ _ c.loop-frame.counts.parts c.loop-frame.counts.commands c.with-counts.result.parts c.with-counts.result.commands 0 0
+      stands = stands_after _ _ (c.args.file.now.said.now) c.args.file.now.number c.args.file.now.name.now _ c.loop-frame.reader c.advance.new.self _ _ c.loop-frame.counts.parts c.loop-frame.counts.commands c.with-counts.result.parts c.with-counts.result.commands 0 0
           (Some c.in-Ok-item.item) c.in-Ok-item.item c.follow_named.result c.in-Ok-follow_named.done refl i.same i.name i.file given.read c.in-Ok-follow_named.is c.follow_named.ensures.followed c.with-counts.ensures.parts c.with-counts.ensures.commands i.stands;
       ahead = next_ahead _ _ c.loop-frame.reader c.advance.new.self 0 0 (Some c.in-Ok-item.item) c.in-Ok-item.item refl e.same e.name given.read;
     }
@@ -82,13 +81,13 @@ pub returns-in-Err-item-clause-followed : goal.returns-in-Err-item-clause-follow
 returns-in-Err-item-clause-followed g c =
     let i = c.loop-frame.invariant in
     let verdict = c.in-Err-item.verdict in
-    file_stops _ _ (option_copied c.args.file.now.new_name) c.args.file.now.number c.args.file.now.name.now _ c.loop-frame.reader c.advance.new.self _ c.loop-frame.counts.parts c.loop-frame.counts.commands 0 0 (stop.Refused verdict) (ended.Refused verdict) i.same i.name
+    file_stops _ _ (c.args.file.now.said.now) c.args.file.now.number c.args.file.now.name.now _ c.loop-frame.reader c.advance.new.self _ c.loop-frame.counts.parts c.loop-frame.counts.commands 0 0 (stop.Refused verdict) (ended.Refused verdict) i.same i.name
     (refused_next (g.I.Inputs.told c.loop-frame.inputs) c.loop-frame.reader c.advance.new.self c.in-Ok-Some.field-0 c.in-Ok-Some.frame verdict c.in-Ok-Some.field-0-is c.in-Ok-Some.ensures.says c.item.ensures.bytes c.in-Err-item.ensures.says) refl i.stands
 
 pub returns-in-Err-clause-followed : goal.returns-in-Err-clause-followed
 returns-in-Err-clause-followed g c =
     let i = c.loop-frame.invariant in
-    file_stops _ _ (option_copied c.args.file.now.new_name) c.args.file.now.number c.args.file.now.name.now _ c.loop-frame.reader c.advance.new.self _ c.loop-frame.counts.parts c.loop-frame.counts.commands _ _ c.in-Err.stop c.outcome_of.result i.same i.name
+    file_stops _ _ (c.args.file.now.said.now) c.args.file.now.number c.args.file.now.name.now _ c.loop-frame.reader c.advance.new.self _ c.loop-frame.counts.parts c.loop-frame.counts.commands _ _ c.in-Err.stop c.outcome_of.result i.same i.name
     (stopped_next _ c.loop-frame.reader c.advance.new.self _ _ c.in-Err.stop c.in-Err.ensures.says) c.outcome_of.ensures.outcome i.stands
 
 pub returns-in-Err-follow_named-clause-cause : goal.returns-in-Err-follow_named-clause-cause

@@ -1,5 +1,4 @@
 use Rattle.std.proofs.Common.{◌≡◌, ◌≤◌, ◌-◌, ◌+◌, map}
-use Rattle.std.specs.Option.{option_copied}
 use Rattle.send_model.specs.Lengths.{limit}
 use Rattle.sx_base.specs.Later.{ReadsOn}
 use Rattle.cmd_reader.specs.Places.{IfTold}
@@ -8,8 +7,8 @@ use Rattle.auditor.specs.Following.{beside}
 use Rattle.auditor.proofs.OneFile.{Stands}
 use Rattle.auditor.proofs.files.follow_file.Given as goal
 
--- The commands that were read were accepted and counted; the inputs tell the same files, no count rose,
--- and they were asked for nothing but this file, once as far as it was read.
+-- The commands that were read were accepted and counted; the inputs tell the same files, no count
+-- rose, and they were asked for nothing but this file, once as far as it was read.
 abbrev pub invariant-loop-frame : goal.invariant-loop-frame
 invariant-loop-frame g l = record {
   same : g.I.Inputs.told l.inputs ≡ g.I.Inputs.told l.fn.inputs;
@@ -22,7 +21,7 @@ invariant-loop-frame g l = record {
   near : l.reader.number ≤ l.reader.offset + 1;
   within : l.reader.offset ≤ limit;
   fewer : l.counts.parts ≤ l.counts.commands;
-  stands : IfTold (g.I.Inputs.told l.fn.inputs) l.fn.file.name.now (Stands (option_copied l.fn.file.new_name) l.fn.file.number
+  stands : IfTold (g.I.Inputs.told l.fn.inputs) l.fn.file.name.now (Stands (l.fn.file.said.now) l.fn.file.number
       (beside (map (λ b. (goal.Guard-dyn g (b.vtable, b.value)).kept b.value) l.fn.guards) l.fn.follower) l.reader
       (beside (map (λ b. (goal.Guard-dyn g (b.vtable, b.value)).kept b.value) l.guards) l.follower) l.counts.parts l.counts.commands);
   ahead : IfTold (g.I.Inputs.told l.inputs) l.reader.name (HasAhead l.reader);

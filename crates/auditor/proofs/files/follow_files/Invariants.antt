@@ -8,8 +8,8 @@ use Rattle.auditor.specs.Following.{beside}
 use Rattle.auditor.proofs.AllFiles.{AllStand}
 use Rattle.auditor.proofs.files.follow_files.Given as goal
 
--- The commands of the files so far were accepted and counted; the inputs tell the same files, no count rose,
--- and they were asked for these files, once each in their order.
+-- The commands of the files so far were accepted and counted; the inputs tell the same files, no
+-- count rose, and they were asked for these files, once each in their order.
 abbrev pub invariant-loop-file : goal.invariant-loop-file
 invariant-loop-file g l = record {
   within : l.file ≤ length l.fn.given.files.now;
@@ -19,7 +19,7 @@ invariant-loop-file g l = record {
   asked : AskedOnly g.I.Inputs l.fn.inputs l.inputs (AreReadOnce (take l.file (map string_bytes l.fn.given.files.now)));
   parts : l.totals.parts ≤ l.file * 18446744073709551616;
   commands : l.totals.commands ≤ l.file * 18446744073709551616;
-  stand : IfAllTold (g.I.Inputs.told l.fn.inputs) (map string_bytes l.fn.given.files.now) (AllStand l.fn.given.names.now
+  stand : IfAllTold (g.I.Inputs.told l.fn.inputs) (map string_bytes l.fn.given.files.now) (AllStand l.fn.given.overrides.now
       (beside (map (λ b. (goal.Guard-dyn g (b.vtable, b.value)).kept b.value) l.fn.guards) l.fn.follower) l.file
       (beside (map (λ b. (goal.Guard-dyn g (b.vtable, b.value)).kept b.value) l.guards) l.follower) l.totals.parts l.totals.commands);
 }

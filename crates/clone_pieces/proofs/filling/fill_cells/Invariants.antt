@@ -7,7 +7,8 @@ use Rattle.clone_pieces.proofs.Asked.{AskedAgain}
 use Rattle.clone_pieces.proofs.Fills.{FilledTo}
 use Rattle.clone_pieces.proofs.filling.fill_cells.Given as goal
 
--- The front of the buffer has the bytes of the cells before those that are left, only ranges were asked for, and no count rose.
+-- The front of the buffer has the bytes of the cells before those that are left, only ranges were
+-- asked for, and no count rose.
 abbrev pub invariant-loop-origin : goal.invariant-loop-origin
 invariant-loop-origin g l = record {
   can : (goal.iterator-loop-origin g).can_next l.origin-iterator;

@@ -8,7 +8,8 @@ use Rattle.clone_pieces.proofs.Asked.{AskedAgain}
 use Rattle.clone_pieces.proofs.Chunks.{Written}
 use Rattle.clone_pieces.proofs.literal.write_cells.Given as goal
 
--- The bytes of the first cells have gone out as commands, only ranges were asked for, and no count rose.
+-- The bytes of the first cells have gone out as commands, only ranges were asked for, and no count
+-- rose.
 abbrev pub invariant-loop-done : goal.invariant-loop-done
 invariant-loop-done g l = record {
   within : l.done ≤ l.range.len;

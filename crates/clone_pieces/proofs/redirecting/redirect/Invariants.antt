@@ -12,7 +12,8 @@ use Rattle.clone_pieces.proofs.Rows.{CutRow}
 use Rattle.clone_pieces.proofs.Redirects.{Redirected}
 use Rattle.clone_pieces.proofs.redirecting.redirect.Given as goal
 
--- What stands for the first pieces has gone out, the others stand one behind the other, only ranges were asked for, and no count rose.
+-- What stands for the first pieces has gone out, the others stand one behind the other, only ranges
+-- were asked for, and no count rose.
 abbrev pub invariant-loop-plan : goal.invariant-loop-plan
 invariant-loop-plan g l = record {
   can : (goal.iterator-loop-plan g).can_next l.plan-iterator;

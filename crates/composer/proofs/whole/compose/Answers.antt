@@ -9,7 +9,7 @@ use Rattle.composer.proofs.Starting.{nothing_traced, nothing_sized, nothing_held
 use Rattle.composer.proofs.whole.compose.Goals as goal
 
 pub returns-in-Err-clause-ends : goal.returns-in-Err-clause-ends
-returns-in-Err-clause-ends g c = survey_stopped _ (map string_bytes c.args.files.now) [] c.args.names.now _ c.in-Err.outcome c.in-Err.ensures.surveyed
+returns-in-Err-clause-ends g c = survey_stopped _ (map string_bytes c.args.files.now) [] c.args.overrides.now _ c.in-Err.outcome c.in-Err.ensures.surveyed
 
 pub compose_over-requires-clause-traced : goal.compose_over-requires-clause-traced
 compose_over-requires-clause-traced g c tells = nothing_traced _ (map string_bytes c.args.files.now) c.new-core.result c.new-core.ensures

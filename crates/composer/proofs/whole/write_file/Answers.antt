@@ -10,9 +10,9 @@ use Rattle.cmd_reader.proofs.Nexts.{given_next, refused_next, ended_next, stoppe
 use Rattle.cmd_reader.proofs.Told.{told_moved}
 use Rattle.clone_pieces.specs.Origins.{IsInInput}
 use Rattle.send_model.specs.Cells.{AllCells}
-use Rattle.send_model.specs.Renamed.{name_for}
+use Rattle.send_model.specs.Overridden.{override_for}
 use Rattle.send_model.proofs.Streams.{read_version}
-use Rattle.part_names.specs.Naming.{IsNamed}
+use Rattle.part_names.specs.Overriding.{IsOverridden}
 use Rattle.composer.specs.Taking.{DataStand}
 use Rattle.composer.specs.Files.{plan_with}
 use Rattle.clone_pieces.proofs.Lengths.{long_then}
@@ -25,7 +25,7 @@ use Rattle.composer.proofs.whole.write_file.Goals as goal
 
 pub returns-in_default-clause-wrote : goal.returns-in_default-clause-wrote
 returns-in_default-clause-wrote g c tells =
-    file_unopened (g.I.Inputs.told c.args.inputs.now) (map string_bytes c.args.task.now.files.now) (plan_with (g.E.Known.base c.args.task.now.known.now) c.args.task.now.survey.now) c.args.turn.number (c.args.turn.number + 1) (name_for c.args.task.now.names.now (c.args.turn.number + 1)) c.args.composer.now (g.O.Sink.taken c.args.out.now)
+    file_unopened (g.I.Inputs.told c.args.inputs.now) (map string_bytes c.args.task.now.files.now) (plan_with (g.E.Known.base c.args.task.now.known.now) c.args.task.now.survey.now) c.args.turn.number (c.args.turn.number + 1) (override_for c.args.task.now.overrides.now (c.args.turn.number + 1)) c.args.composer.now (g.O.Sink.taken c.args.out.now)
 
 pub loop-frame-init : goal.loop-frame-init
 loop-frame-init g c =
@@ -43,7 +43,7 @@ loop-frame-init g c =
       name = ap (λ (r : Reader). r.name) fresh ∙ name_at c.args.task.now.files.now c.args.turn.number c.index-task-turn.result c.as_str.result.now c.requires.numbered c.index-task-turn.is (c.as_str.ensures.value ∙ ap string_bytes (sym c.index-task-turn.is));
       had = c.requires.had;
       there = in_files_at_start (g.I.Inputs.told c.args.inputs.now) (map string_bytes c.args.task.now.files.now) c.args.turn.number (c.args.turn.number + 1) c.as_str.result.now c.in-Ok.reader c.args.composer.now refl fresh c.requires.there;
-      stands = λ tells. stands_at_start (g.I.Inputs.told c.args.inputs.now) (map string_bytes c.args.task.now.files.now) (plan_with (g.E.Known.base c.args.task.now.known.now) c.args.task.now.survey.now) c.args.turn.number (c.args.turn.number + 1) (name_for c.args.task.now.names.now (c.args.turn.number + 1)) c.as_str.result.now c.in-Ok.reader c.args.composer.now (g.O.Sink.taken c.args.out.now) c.args.turn.before fresh;
+      stands = λ tells. stands_at_start (g.I.Inputs.told c.args.inputs.now) (map string_bytes c.args.task.now.files.now) (plan_with (g.E.Known.base c.args.task.now.known.now) c.args.task.now.survey.now) c.args.turn.number (c.args.turn.number + 1) (override_for c.args.task.now.overrides.now (c.args.turn.number + 1)) c.as_str.result.now c.in-Ok.reader c.args.composer.now (g.O.Sink.taken c.args.out.now) c.args.turn.before fresh;
       alike = alike_at_start _ (c.args.turn.number + 1) _ c.as_str.result.now c.in-Ok.reader fresh;
       ahead = start_ahead _ (c.args.turn.number + 1) c.as_str.result.now c.in-Ok.reader fresh;
     }
@@ -51,7 +51,7 @@ loop-frame-init g c =
 pub returns-in-Ok-None-clause-wrote : goal.returns-in-Ok-None-clause-wrote
 returns-in-Ok-None-clause-wrote g c tells =
     let i = c.loop-frame.invariant in
-    file_ends _ _ (map string_bytes c.args.task.now.files.now) (plan_with (g.E.Known.base c.args.task.now.known.now) c.args.task.now.survey.now) c.args.turn.number (c.args.turn.number + 1) (name_for c.args.task.now.names.now (c.args.turn.number + 1)) c.args.composer.now _ c.loop-frame.reader c.advance.new.self c.loop-frame.composer _ c.args.turn.before c.loop-frame.place 0 0 None refl i.same
+    file_ends _ _ (map string_bytes c.args.task.now.files.now) (plan_with (g.E.Known.base c.args.task.now.known.now) c.args.task.now.survey.now) c.args.turn.number (c.args.turn.number + 1) (override_for c.args.task.now.overrides.now (c.args.turn.number + 1)) c.args.composer.now _ c.loop-frame.reader c.advance.new.self c.loop-frame.composer _ c.args.turn.before c.loop-frame.place 0 0 None refl i.same
     (count_names c.args.task.now.files.now c.args.turn.number c.requires.numbered) i.name
     (ended_next (g.I.Inputs.told c.loop-frame.inputs) c.loop-frame.reader c.advance.new.self c.in-Ok-None.field-0 c.in-Ok-None.field-0-is c.in-Ok-None.ensures.says) (i.stands tells)
 
@@ -61,27 +61,27 @@ returns-in-Ok-None-clause-there g c = cells_in_files (g.I.Inputs.told c.args.inp
 pub take-taken-requires-clause-frame : goal.take-taken-requires-clause-frame
 take-taken-requires-clause-frame g c =
     let f = (given_next (g.I.Inputs.told c.loop-frame.inputs) c.loop-frame.reader c.advance.new.self c.in-Ok-Some.field-0 c.in-Ok-Some.frame c.in-Ok-item.item c.in-Ok-Some.field-0-is c.in-Ok-Some.ensures.says c.item.ensures.bytes c.in-Ok-item.ensures.says).fits in
-    still_spelled _ c.in-Ok-item.item c.given_or-named.result.now (subst (IsNamed _ c.in-Ok-item.item) (sym c.given_or-named.ensures) c.rename-renamed.ensures.named).named c.last_frame-came.result.now c.advance.new.self.fed.last c.last_frame-came.ensures.bytes (subst (IsNamed _ c.in-Ok-item.item) (sym c.given_or-named.ensures) c.rename-renamed.ensures.named).frame f.spelled
+    still_spelled _ c.in-Ok-item.item c.given_or-meant.result.now (subst (IsOverridden _ c.in-Ok-item.item) (sym c.given_or-meant.ensures) c.override_item-changed.ensures.meant).meant c.last_frame-came.result.now c.advance.new.self.fed.last c.last_frame-came.ensures.bytes (subst (IsOverridden _ c.in-Ok-item.item) (sym c.given_or-meant.ensures) c.override_item-changed.ensures.meant).frame f.spelled
 
 pub take-taken-requires-clause-version : goal.take-taken-requires-clause-version
 take-taken-requires-clause-version g c =
     let f = (given_next (g.I.Inputs.told c.loop-frame.inputs) c.loop-frame.reader c.advance.new.self c.in-Ok-Some.field-0 c.in-Ok-Some.frame c.in-Ok-item.item c.in-Ok-Some.field-0-is c.in-Ok-Some.ensures.says c.item.ensures.bytes c.in-Ok-item.ensures.says).fits in
-    subst (λ (v : ℕ). (v ≡ 1) ⊎ (v ≡ 2)) (sym (same_version _ c.in-Ok-item.item c.given_or-named.result.now (subst (IsNamed _ c.in-Ok-item.item) (sym c.given_or-named.ensures) c.rename-renamed.ensures.named).named)) (read_version c.in-Ok-item.item.version f.version)
+    subst (λ (v : ℕ). (v ≡ 1) ⊎ (v ≡ 2)) (sym (same_version _ c.in-Ok-item.item c.given_or-meant.result.now (subst (IsOverridden _ c.in-Ok-item.item) (sym c.given_or-meant.ensures) c.override_item-changed.ensures.meant).meant)) (read_version c.in-Ok-item.item.version f.version)
 
 pub take-taken-requires-clause-fits : goal.take-taken-requires-clause-fits
 take-taken-requires-clause-fits g c =
-    let same = same_version _ c.in-Ok-item.item c.given_or-named.result.now (subst (IsNamed _ c.in-Ok-item.item) (sym c.given_or-named.ensures) c.rename-renamed.ensures.named).named in
+    let same = same_version _ c.in-Ok-item.item c.given_or-meant.result.now (subst (IsOverridden _ c.in-Ok-item.item) (sym c.given_or-meant.ensures) c.override_item-changed.ensures.meant).meant in
     omega (arith, same, c.if-item-version.false, c.version.ensures.version)
 
 pub take-taken-requires-clause-can_write : goal.take-taken-requires-clause-can_write
 take-taken-requires-clause-can_write g c =
     let f = (given_next (g.I.Inputs.told c.loop-frame.inputs) c.loop-frame.reader c.advance.new.self c.in-Ok-Some.field-0 c.in-Ok-Some.frame c.in-Ok-item.item c.in-Ok-Some.field-0-is c.in-Ok-Some.ensures.says c.item.ensures.bytes c.in-Ok-item.ensures.says).fits in
-    still_said _ c.in-Ok-item.item c.given_or-named.result.now (subst (IsNamed _ c.in-Ok-item.item) (sym c.given_or-named.ensures) c.rename-renamed.ensures.named).named f.version f.can_write (subst (IsNamed _ c.in-Ok-item.item) (sym c.given_or-named.ensures) c.rename-renamed.ensures.named).can_write
+    still_said _ c.in-Ok-item.item c.given_or-meant.result.now (subst (IsOverridden _ c.in-Ok-item.item) (sym c.given_or-meant.ensures) c.override_item-changed.ensures.meant).meant f.version f.can_write (subst (IsOverridden _ c.in-Ok-item.item) (sym c.given_or-meant.ensures) c.override_item-changed.ensures.meant).can_write
 
 pub take-taken-requires-clause-payload : goal.take-taken-requires-clause-payload
 take-taken-requires-clause-payload g c =
     let f = (given_next (g.I.Inputs.told c.loop-frame.inputs) c.loop-frame.reader c.advance.new.self c.in-Ok-Some.field-0 c.in-Ok-Some.frame c.in-Ok-item.item c.in-Ok-Some.field-0-is c.in-Ok-Some.ensures.says c.item.ensures.bytes c.in-Ok-item.ensures.says).fits in
-    still_within _ c.in-Ok-item.item c.given_or-named.result.now (subst (IsNamed _ c.in-Ok-item.item) (sym c.given_or-named.ensures) c.rename-renamed.ensures.named).named f.payload
+    still_within _ c.in-Ok-item.item c.given_or-meant.result.now (subst (IsOverridden _ c.in-Ok-item.item) (sym c.given_or-meant.ensures) c.override_item-changed.ensures.meant).meant f.payload
 
 pub take-taken-requires-clause-there : goal.take-taken-requires-clause-there
 take-taken-requires-clause-there g c =
@@ -89,16 +89,16 @@ take-taken-requires-clause-there g c =
     let e = c.in-Ok-Some.ensures in
     let next = next_of_all (g.I.Inputs.told c.args.inputs.now) _ (map string_bytes c.args.task.now.files.now) c.args.turn.number c.loop-frame.reader c.advance.new.self 0 0 (Some c.in-Ok-item.item) c.in-Ok-item.item refl i.same (count_names c.args.task.now.files.now c.args.turn.number c.requires.numbered) i.name (given_next (g.I.Inputs.told c.loop-frame.inputs) c.loop-frame.reader c.advance.new.self c.in-Ok-Some.field-0 c.in-Ok-Some.frame c.in-Ok-item.item c.in-Ok-Some.field-0-is c.in-Ok-Some.ensures.says c.item.ensures.bytes c.in-Ok-item.ensures.says).read in
     all.told_moved (g.I.Inputs.told c.advance.new.inputs) (g.I.Inputs.told c.args.inputs.now) (map string_bytes c.args.task.now.files.now)
-    (λ files. AllCells (IsInInput files) c.loop-frame.composer.state × DataStand files (item_of (c.args.turn.number + 1) c.given_or-named.result.now)) (sym (e.same ∙ i.same))
-    (data_there (g.I.Inputs.told c.args.inputs.now) (map string_bytes c.args.task.now.files.now) c.args.turn.number (c.args.turn.number + 1) _ c.loop-frame.reader c.advance.new.self c.loop-frame.composer c.in-Ok-item.item c.given_or-named.result.now refl i.file
-    ((subst (IsNamed _ c.in-Ok-item.item) (sym c.given_or-named.ensures) c.rename-renamed.ensures.named).named (c.args.turn.number + 1)) next i.there)
+    (λ files. AllCells (IsInInput files) c.loop-frame.composer.state × DataStand files (item_of (c.args.turn.number + 1) c.given_or-meant.result.now)) (sym (e.same ∙ i.same))
+    (data_there (g.I.Inputs.told c.args.inputs.now) (map string_bytes c.args.task.now.files.now) c.args.turn.number (c.args.turn.number + 1) _ c.loop-frame.reader c.advance.new.self c.loop-frame.composer c.in-Ok-item.item c.given_or-meant.result.now refl i.file
+    ((subst (IsOverridden _ c.in-Ok-item.item) (sym c.given_or-meant.ensures) c.override_item-changed.ensures.meant).meant (c.args.turn.number + 1)) next i.there)
 
 pub returns-then-item-version-clause-wrote : goal.returns-then-item-version-clause-wrote
 returns-then-item-version-clause-wrote g c tells =
     let i = c.loop-frame.invariant in
     let above : c.args.task.now.survey.now.version < c.in-Ok-item.item.version = omega (arith, c.if-item-version.true, c.version.ensures.version) in
     let next = next_of_all (g.I.Inputs.told c.args.inputs.now) _ (map string_bytes c.args.task.now.files.now) c.args.turn.number c.loop-frame.reader c.advance.new.self 0 0 (Some c.in-Ok-item.item) c.in-Ok-item.item refl i.same (count_names c.args.task.now.files.now c.args.turn.number c.requires.numbered) i.name (given_next (g.I.Inputs.told c.loop-frame.inputs) c.loop-frame.reader c.advance.new.self c.in-Ok-Some.field-0 c.in-Ok-Some.frame c.in-Ok-item.item c.in-Ok-Some.field-0-is c.in-Ok-Some.ensures.says c.item.ensures.bytes c.in-Ok-item.ensures.says).read in
-    file_above (g.I.Inputs.told c.args.inputs.now) (map string_bytes c.args.task.now.files.now) (plan_with (g.E.Known.base c.args.task.now.known.now) c.args.task.now.survey.now) c.args.turn.number (c.args.turn.number + 1) (name_for c.args.task.now.names.now (c.args.turn.number + 1)) c.args.composer.now _ c.loop-frame.reader c.advance.new.self c.loop-frame.composer _ _ c.args.turn.before c.loop-frame.place _ _ c.in-Ok-item.item c.refused-refused.result c.stopped-then-item-version.result
+    file_above (g.I.Inputs.told c.args.inputs.now) (map string_bytes c.args.task.now.files.now) (plan_with (g.E.Known.base c.args.task.now.known.now) c.args.task.now.survey.now) c.args.turn.number (c.args.turn.number + 1) (override_for c.args.task.now.overrides.now (c.args.turn.number + 1)) c.args.composer.now _ c.loop-frame.reader c.advance.new.self c.loop-frame.composer _ _ c.args.turn.before c.loop-frame.place _ _ c.in-Ok-item.item c.refused-refused.result c.stopped-then-item-version.result
     above i.file c.stopped-then-item-version.ensures.stopped next (i.stands tells)
 
 pub returns-in-Err-taken-clause-wrote : goal.returns-in-Err-taken-clause-wrote
@@ -106,8 +106,8 @@ returns-in-Err-taken-clause-wrote g c tells =
     let i = c.loop-frame.invariant in
     let e = c.in-Ok-Some.ensures in
     let next = next_of_all (g.I.Inputs.told c.args.inputs.now) _ (map string_bytes c.args.task.now.files.now) c.args.turn.number c.loop-frame.reader c.advance.new.self 0 0 (Some c.in-Ok-item.item) c.in-Ok-item.item refl i.same (count_names c.args.task.now.files.now c.args.turn.number c.requires.numbered) i.name (given_next (g.I.Inputs.told c.loop-frame.inputs) c.loop-frame.reader c.advance.new.self c.in-Ok-Some.field-0 c.in-Ok-Some.frame c.in-Ok-item.item c.in-Ok-Some.field-0-is c.in-Ok-Some.ensures.says c.item.ensures.bytes c.in-Ok-item.ensures.says).read in
-    item_stops _ _ (map string_bytes c.args.task.now.files.now) (plan_with (g.E.Known.base c.args.task.now.known.now) c.args.task.now.survey.now) c.args.turn.number (c.args.turn.number + 1) (name_for c.args.task.now.names.now (c.args.turn.number + 1)) c.args.composer.now _ c.loop-frame.reader c.advance.new.self c.loop-frame.composer c.take-taken.new.self _ _ c.args.turn.before c.loop-frame.place c.in-Ok-item.item c.given_or-named.result.now c.in-Err-taken.outcome
-    i.file (named_for _ (name_for c.args.task.now.names.now (c.args.turn.number + 1)) (c.args.turn.number + 1) c.in-Ok-item.item c.given_or-named.result.now c.of_file-name.ensures.name (subst (IsNamed _ c.in-Ok-item.item) (sym c.given_or-named.ensures) c.rename-renamed.ensures.named).named) (e.same ∙ i.same) next (c.in-Err-taken.ensures.taken tells) (i.stands tells)
+    item_stops _ _ (map string_bytes c.args.task.now.files.now) (plan_with (g.E.Known.base c.args.task.now.known.now) c.args.task.now.survey.now) c.args.turn.number (c.args.turn.number + 1) (override_for c.args.task.now.overrides.now (c.args.turn.number + 1)) c.args.composer.now _ c.loop-frame.reader c.advance.new.self c.loop-frame.composer c.take-taken.new.self _ _ c.args.turn.before c.loop-frame.place c.in-Ok-item.item c.given_or-meant.result.now c.in-Err-taken.outcome
+    i.file (named_for _ (override_for c.args.task.now.overrides.now (c.args.turn.number + 1)) (c.args.turn.number + 1) c.in-Ok-item.item c.given_or-meant.result.now c.of_file-said.ensures.said (subst (IsOverridden _ c.in-Ok-item.item) (sym c.given_or-meant.ensures) c.override_item-changed.ensures.meant).meant) (e.same ∙ i.same) next (c.in-Err-taken.ensures.taken tells) (i.stands tells)
 
 pub loop-frame-preserved : goal.loop-frame-preserved
 loop-frame-preserved g c =
@@ -129,8 +129,8 @@ loop-frame-preserved g c =
       name = e.name ∙ i.name;
       had = t.had;
       there = in_files_after (g.I.Inputs.told c.args.inputs.now) (g.I.Inputs.told c.advance.new.inputs) (map string_bytes c.args.task.now.files.now) c.args.turn.number c.loop-frame.reader c.advance.new.self c.loop-frame.composer c.take-taken.new.self c.in-Ok-item.item (e.same ∙ i.same) next t.there i.there;
-      stands = λ tells. stands_after _ _ (map string_bytes c.args.task.now.files.now) (plan_with (g.E.Known.base c.args.task.now.known.now) c.args.task.now.survey.now) c.args.turn.number (c.args.turn.number + 1) (name_for c.args.task.now.names.now (c.args.turn.number + 1)) c.args.composer.now _ c.loop-frame.reader c.advance.new.self c.loop-frame.composer c.take-taken.new.self _ _ c.args.turn.before c.loop-frame.place (record { file = c.args.turn.number + 1; command = c.in-Ok-item.item.number; offset = c.in-Ok-item.item.offset }) c.in-Ok-item.item c.given_or-named.result.now
-          i.file refl (named_for _ (name_for c.args.task.now.names.now (c.args.turn.number + 1)) (c.args.turn.number + 1) c.in-Ok-item.item c.given_or-named.result.now c.of_file-name.ensures.name (subst (IsNamed _ c.in-Ok-item.item) (sym c.given_or-named.ensures) c.rename-renamed.ensures.named).named) (e.same ∙ i.same) next (t.taken tells) (i.stands tells);
+      stands = λ tells. stands_after _ _ (map string_bytes c.args.task.now.files.now) (plan_with (g.E.Known.base c.args.task.now.known.now) c.args.task.now.survey.now) c.args.turn.number (c.args.turn.number + 1) (override_for c.args.task.now.overrides.now (c.args.turn.number + 1)) c.args.composer.now _ c.loop-frame.reader c.advance.new.self c.loop-frame.composer c.take-taken.new.self _ _ c.args.turn.before c.loop-frame.place (record { file = c.args.turn.number + 1; command = c.in-Ok-item.item.number; offset = c.in-Ok-item.item.offset }) c.in-Ok-item.item c.given_or-meant.result.now
+          i.file refl (named_for _ (override_for c.args.task.now.overrides.now (c.args.turn.number + 1)) (c.args.turn.number + 1) c.in-Ok-item.item c.given_or-meant.result.now c.of_file-said.ensures.said (subst (IsOverridden _ c.in-Ok-item.item) (sym c.given_or-meant.ensures) c.override_item-changed.ensures.meant).meant) (e.same ∙ i.same) next (t.taken tells) (i.stands tells);
       alike = told_moved (g.I.Inputs.told c.take-taken.new.inputs) (g.I.Inputs.told c.loop-frame.inputs) c.advance.new.self.name c.loop-frame.reader.name (EndsAlike (c.args.turn.number + 1) c.advance.new.self) (sym (t.inputs.same ∙ e.same)) (sym e.name)
           (alike_after (g.I.Inputs.told c.loop-frame.inputs) _ (c.args.turn.number + 1) c.loop-frame.reader.name c.loop-frame.reader c.advance.new.self 0 0 (Some c.in-Ok-item.item) c.in-Ok-item.item refl refl refl (given_next (g.I.Inputs.told c.loop-frame.inputs) c.loop-frame.reader c.advance.new.self c.in-Ok-Some.field-0 c.in-Ok-Some.frame c.in-Ok-item.item c.in-Ok-Some.field-0-is c.in-Ok-Some.ensures.says c.item.ensures.bytes c.in-Ok-item.ensures.says).read i.alike);
       ahead = told_moved (g.I.Inputs.told c.take-taken.new.inputs) (g.I.Inputs.told c.advance.new.inputs) c.advance.new.self.name c.advance.new.self.name (HasAhead c.advance.new.self) (sym t.inputs.same) refl
@@ -140,7 +140,7 @@ loop-frame-preserved g c =
 pub returns-in-Err-clause-wrote : goal.returns-in-Err-clause-wrote
 returns-in-Err-clause-wrote g c tells =
     let i = c.loop-frame.invariant in
-    file_stops _ _ (map string_bytes c.args.task.now.files.now) (plan_with (g.E.Known.base c.args.task.now.known.now) c.args.task.now.survey.now) c.args.turn.number (c.args.turn.number + 1) (name_for c.args.task.now.names.now (c.args.turn.number + 1)) c.args.composer.now _ c.loop-frame.reader c.advance.new.self c.loop-frame.composer _ _ c.args.turn.before c.loop-frame.place _ _ _ _ c.in-Err.stop c.outcome_of.result c.stopped.result
+    file_stops _ _ (map string_bytes c.args.task.now.files.now) (plan_with (g.E.Known.base c.args.task.now.known.now) c.args.task.now.survey.now) c.args.turn.number (c.args.turn.number + 1) (override_for c.args.task.now.overrides.now (c.args.turn.number + 1)) c.args.composer.now _ c.loop-frame.reader c.advance.new.self c.loop-frame.composer _ _ c.args.turn.before c.loop-frame.place _ _ _ _ c.in-Err.stop c.outcome_of.result c.stopped.result
     i.same (count_names c.args.task.now.files.now c.args.turn.number c.requires.numbered) i.name
     (stopped_next _ c.loop-frame.reader c.advance.new.self _ _ c.in-Err.stop c.in-Err.ensures.says) c.outcome_of.ensures.outcome c.stopped.ensures.stopped i.alike (i.stands tells)
 
@@ -148,7 +148,7 @@ pub returns-in-Err-item-clause-wrote : goal.returns-in-Err-item-clause-wrote
 returns-in-Err-item-clause-wrote g c tells =
     let i = c.loop-frame.invariant in
     let verdict = c.in-Err-item.verdict in
-    file_stops _ _ (map string_bytes c.args.task.now.files.now) (plan_with (g.E.Known.base c.args.task.now.known.now) c.args.task.now.survey.now) c.args.turn.number (c.args.turn.number + 1) (name_for c.args.task.now.names.now (c.args.turn.number + 1)) c.args.composer.now _ c.loop-frame.reader c.advance.new.self c.loop-frame.composer _ _ c.args.turn.before c.loop-frame.place 0 0 _ _ (stop.Refused verdict) (ended.Refused verdict) c.stopped-in-Err-item.result
+    file_stops _ _ (map string_bytes c.args.task.now.files.now) (plan_with (g.E.Known.base c.args.task.now.known.now) c.args.task.now.survey.now) c.args.turn.number (c.args.turn.number + 1) (override_for c.args.task.now.overrides.now (c.args.turn.number + 1)) c.args.composer.now _ c.loop-frame.reader c.advance.new.self c.loop-frame.composer _ _ c.args.turn.before c.loop-frame.place 0 0 _ _ (stop.Refused verdict) (ended.Refused verdict) c.stopped-in-Err-item.result
     i.same (count_names c.args.task.now.files.now c.args.turn.number c.requires.numbered) i.name
     (refused_next (g.I.Inputs.told c.loop-frame.inputs) c.loop-frame.reader c.advance.new.self c.in-Ok-Some.field-0 c.in-Ok-Some.frame verdict c.in-Ok-Some.field-0-is c.in-Ok-Some.ensures.says c.item.ensures.bytes c.in-Err-item.ensures.says) refl c.stopped-in-Err-item.ensures.stopped i.alike (i.stands tells)
 

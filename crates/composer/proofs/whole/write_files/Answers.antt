@@ -24,7 +24,7 @@ loop-file-init g c = record {
   out_steady = refl;
   had = c.requires.had;
   there = c.requires.there;
-  stand = λ tells. files_start (g.I.Inputs.told c.args.inputs.now) (map string_bytes c.args.task.now.files.now) (plan_with (g.E.Known.base c.args.task.now.known.now) c.args.task.now.survey.now) c.args.task.now.names.now c.args.composer.now (g.O.Sink.taken c.args.out.now) c.start-place.result;
+  stand = λ tells. files_start (g.I.Inputs.told c.args.inputs.now) (map string_bytes c.args.task.now.files.now) (plan_with (g.E.Known.base c.args.task.now.known.now) c.args.task.now.survey.now) c.args.task.now.overrides.now c.args.composer.now (g.O.Sink.taken c.args.out.now) c.start-place.result;
 }
 
 pub write_file-requires-clause-there : goal.write_file-requires-clause-there
@@ -35,8 +35,8 @@ write_file-requires-clause-there g c =
 pub returns-in-Err-clause-ends : goal.returns-in-Err-clause-ends
 returns-in-Err-clause-ends g c tells =
     let i = c.loop-file.invariant in
-    files_stopped _ _ c.args.task.now.files.now (g.E.Known.base c.args.task.now.known.now) c.args.task.now.names.now c.args.task.now.survey.now c.args.composer.now _ c.loop-file.file c.loop-file.composer _ _ c.start-place.result c.loop-file.place c.in-Err.outcome
-    i.same c.loop-file-test.true (begun _ (map string_bytes c.args.task.now.files.now) (g.E.Known.base c.args.task.now.known.now) c.args.task.now.names.now c.args.task.now.survey.now c.args.composer.now c.requires.apart (c.requires.sayable tells) c.requires.surveyed (c.requires.start tells))
+    files_stopped _ _ c.args.task.now.files.now (g.E.Known.base c.args.task.now.known.now) c.args.task.now.overrides.now c.args.task.now.survey.now c.args.composer.now _ c.loop-file.file c.loop-file.composer _ _ c.start-place.result c.loop-file.place c.in-Err.outcome
+    i.same c.loop-file-test.true (begun _ (map string_bytes c.args.task.now.files.now) (g.E.Known.base c.args.task.now.known.now) c.args.task.now.overrides.now c.args.task.now.survey.now c.args.composer.now c.requires.apart (c.requires.sayable tells) c.requires.surveyed (c.requires.start tells))
     (c.in-Err.ensures.wrote tells) (i.stand tells)
 
 pub loop-file-preserved : goal.loop-file-preserved
@@ -55,21 +55,21 @@ loop-file-preserved g c =
       out_steady = e.out.steady ∙ i.out_steady;
       had = e.had;
       there = told_moved (g.I.Inputs.told c.args.inputs.now) (g.I.Inputs.told c.loop-file.inputs) (map string_bytes c.args.task.now.files.now) (λ files. AllCells (IsInInput files) c.write_file.new.composer.state) i.same e.there;
-      stand = λ tells. files_after _ _ c.args.task.now.files.now (plan_with (g.E.Known.base c.args.task.now.known.now) c.args.task.now.survey.now) c.args.task.now.names.now c.args.composer.now _ c.loop-file.file c.loop-file.composer c.write_file.new.composer _ _ c.start-place.result c.loop-file.place c.in-Ok.place
+      stand = λ tells. files_after _ _ c.args.task.now.files.now (plan_with (g.E.Known.base c.args.task.now.known.now) c.args.task.now.survey.now) c.args.task.now.overrides.now c.args.composer.now _ c.loop-file.file c.loop-file.composer c.write_file.new.composer _ _ c.start-place.result c.loop-file.place c.in-Ok.place
           i.same c.loop-file-test.true (e.wrote tells) (i.stand tells);
     }
 
 pub returns-then-not-at_last-clause-ends : goal.returns-then-not-at_last-clause-ends
 returns-then-not-at_last-clause-ends g c tells =
-    files_empty _ c.args.task.now.files.now (g.E.Known.base c.args.task.now.known.now) c.args.task.now.names.now c.args.task.now.survey.now c.args.composer.now _ c.loop-file.file c.loop-file.composer _ c.start-place.result c.loop-file.place c.refused.result
+    files_empty _ c.args.task.now.files.now (g.E.Known.base c.args.task.now.known.now) c.args.task.now.overrides.now c.args.task.now.survey.now c.args.composer.now _ c.loop-file.file c.loop-file.composer _ c.start-place.result c.loop-file.place c.refused.result
     c.requires.some (omega (arith, c.loop-file-test.false)) (sym c.is_at_last-at_last.ensures.last ∙ c.if-not-at_last.true) c.refused.ensures.verdict
-    (begun _ (map string_bytes c.args.task.now.files.now) (g.E.Known.base c.args.task.now.known.now) c.args.task.now.names.now c.args.task.now.survey.now c.args.composer.now c.requires.apart (c.requires.sayable tells) c.requires.surveyed (c.requires.start tells)) (c.loop-file.invariant.stand tells)
+    (begun _ (map string_bytes c.args.task.now.files.now) (g.E.Known.base c.args.task.now.known.now) c.args.task.now.overrides.now c.args.task.now.survey.now c.args.composer.now c.requires.apart (c.requires.sayable tells) c.requires.surveyed (c.requires.start tells)) (c.loop-file.invariant.stand tells)
 
 pub returns-clause-ends : goal.returns-clause-ends
 returns-clause-ends g c tells =
-    files_ended _ c.args.task.now.files.now (g.E.Known.base c.args.task.now.known.now) c.args.task.now.names.now c.args.task.now.survey.now c.args.composer.now _ c.loop-file.file c.loop-file.composer _ _ c.start-place.result c.loop-file.place c.version.result _ _ c.end.result c.map_err.result
+    files_ended _ c.args.task.now.files.now (g.E.Known.base c.args.task.now.known.now) c.args.task.now.overrides.now c.args.task.now.survey.now c.args.composer.now _ c.loop-file.file c.loop-file.composer _ _ c.start-place.result c.loop-file.place c.version.result _ _ c.end.result c.map_err.result
     c.requires.some (omega (arith, c.loop-file-test.false)) (sym c.is_at_last-at_last.ensures.last ∙ c.if-not-at_last.false) c.version.ensures.version c.end.ensures.ended (answer_is c.end.result c.map_err.result c.map_err.ensures.cases)
-    (begun _ (map string_bytes c.args.task.now.files.now) (g.E.Known.base c.args.task.now.known.now) c.args.task.now.names.now c.args.task.now.survey.now c.args.composer.now c.requires.apart (c.requires.sayable tells) c.requires.surveyed (c.requires.start tells)) (c.loop-file.invariant.stand tells)
+    (begun _ (map string_bytes c.args.task.now.files.now) (g.E.Known.base c.args.task.now.known.now) c.args.task.now.overrides.now c.args.task.now.survey.now c.args.composer.now c.requires.apart (c.requires.sayable tells) c.requires.surveyed (c.requires.start tells)) (c.loop-file.invariant.stand tells)
 
 pub returns-clause-cause : goal.returns-clause-cause
 returns-clause-cause g c = end_caused _ _ _ _ _ _ _ _ _ _ c.end.result c.map_err.result (answer_is c.end.result c.map_err.result c.map_err.ensures.cases) (omega (arith, c.loop-file.invariant.out_steady)) c.end.ensures.ended

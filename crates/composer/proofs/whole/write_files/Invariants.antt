@@ -9,8 +9,8 @@ use Rattle.composer.proofs.Asked.{FilesAsked}
 use Rattle.composer.proofs.FilesWriting.{FilesStand}
 use Rattle.composer.proofs.whole.write_files.Given as goal
 
--- The items of the files so far were taken, the inputs tell the same files and were asked for these, and for ranges again; what is held of the base is the same, and no
--- count rose.
+-- The items of the files so far were taken, the inputs tell the same files and were asked for
+-- these, and for ranges again; what is held of the base is the same, and no count rose.
 abbrev pub invariant-loop-file : goal.invariant-loop-file
 invariant-loop-file g l = record {
   within : l.file ≤ length l.fn.task.files.now;
@@ -24,7 +24,7 @@ invariant-loop-file g l = record {
   out_steady : g.O.Sink.faults l.out ≡ g.O.Sink.faults l.fn.out;
   had : AllCells (IsHad (length l.fn.task.files.now) (g.E.Known.base l.fn.task.known.now)) l.composer.state;
   there : IfAllTold (g.I.Inputs.told l.fn.inputs) (map string_bytes l.fn.task.files.now) (λ files. AllCells (IsInInput files) l.composer.state);
-  stand : g.B.OutsideBytes.tells → IfAllTold (g.I.Inputs.told l.fn.inputs) (map string_bytes l.fn.task.files.now) (FilesStand (plan_with (g.E.Known.base l.fn.task.known.now) l.fn.task.survey.now) l.fn.task.names.now l.fn.composer (g.O.Sink.taken l.fn.out) l.file l.composer (g.O.Sink.taken l.out) l.initial.place l.place);
+  stand : g.B.OutsideBytes.tells → IfAllTold (g.I.Inputs.told l.fn.inputs) (map string_bytes l.fn.task.files.now) (FilesStand (plan_with (g.E.Known.base l.fn.task.known.now) l.fn.task.survey.now) l.fn.task.overrides.now l.fn.composer (g.O.Sink.taken l.fn.out) l.file l.composer (g.O.Sink.taken l.out) l.initial.place l.place);
 }
 
 abbrev pub decreases-loop-file : goal.decreases-loop-file

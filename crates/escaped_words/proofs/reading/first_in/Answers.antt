@@ -1,7 +1,7 @@
 use Rattle.std.specs.Prelude.{◌≡◌, ◌≢◌, [], None, IfNone}
 use Rattle.std.proofs.Common.{sym, subst, ◌∙◌, arith}
 use Rattle.send_model.specs.Printed.{is_plain}
-use Rattle.word_model.specs.EscapedWords.{unescaped}
+use Rattle.program_model.specs.EscapedWords.{unescaped}
 use Rattle.escaped_words.proofs.Fronted.{plain_stands, too_short, escape_stands, no_escape}
 use Rattle.escaped_words.proofs.reading.first_in.Goals as goal
 

@@ -1,6 +1,6 @@
 use Rattle.std.proofs.Common.{sym, ap, subst, ◌∙◌}
 use Rattle.send_model.specs.Attribute.{IsBytes}
-use Rattle.word_model.specs.EscapedWords.{meant_by}
+use Rattle.program_model.specs.EscapedWords.{meant_by}
 use Rattle.file_words.proofs.Standing.{is_new}
 use Rattle.file_words.proofs.checking.name_given.Goals as goal
 

@@ -8,18 +8,17 @@ use Rattle.sx_base.proofs.DiskMoments.{joins, weakens}
 use Rattle.sx_base.proofs.DiskImages.{only_settled}
 use Rattle.sx_base.specs.Disk.{Pending, IsImage}
 use Rattle.store_model.specs.Answers.{Missing}
-use Rattle.sent_model.specs.HeldStores.{StandsHeld, SendAnswers}
-use Rattle.subvol_catalog.specs.Entries.{entry_of, AreNamed}
+use Rattle.snapshot_model.specs.HeldStores.{StandsHeld, SendAnswers}
+use Rattle.subvol_catalog.specs.Entries.{entry_of, AreNamed, named}
 use Rattle.inode_commands.specs.Spelled.{HasLength}
-use Rattle.store_groups.specs.declared.place.Place.{Place}
-use Rattle.store_groups.specs.Kept.{AreKept}
+use Rattle.group_replay.specs.declared.place.Place.{Place}
+use Rattle.group_replay.specs.Kept.{AreKept}
 use Rattle.store_journal.specs.Shown.{StoreState}
 use Rattle.store_journal.specs.Opening.{HoldsSome}
-use Rattle.store_words.specs.declared.ends.StoreEnd.TheVariants as made
+use Rattle.store_commands.specs.declared.ends.StoreEnd.TheVariants as made
 use Rattle.sx_base.specs.declared.outcome.Outcome.TheVariants as ended
-use Rattle.store_words.specs.Ending.{answer_of}
-use Rattle.store_words.specs.Naming.{named}
-use Rattle.store_words.proofs.Opened.{no_end}
+use Rattle.store_commands.specs.Ending.{answer_of}
+use Rattle.store_commands.proofs.Opened.{no_end}
 use Rattle.full_send.specs.Adding.{IsCutBy}
 use Rattle.full_send.specs.Held.{with_holes, store_with_holes}
 use Rattle.full_send.specs.Orders.{form_of}
@@ -59,7 +58,7 @@ returns-in_default-clause-answered g c tells =
     let seen : List ℕ = g.D.Disk.seen c.args.disk.now in
     let name : List ℕ = c.args.name.now in
     let core = c.in-Ok.store.core in
-    let none : named name core ≡ None = ap (named name) (sym (c.catalog.ensures.core ∙ c.core.ensures.core)) ∙ sym c.in_default.ensures in (
+    let none : named name core ≡ None = ap (named name) (sym (c.catalog.ensures.core ∙ c.core.ensures.core)) ∙ sym c.in_default.ensures.entry in (
       [],
       Appends-nil (g.O.Sink.taken c.args.out.now),
       subst (λ (l : List ℕ). SendAnswers (form_of c.args.order) seen name (Missing name) [] l) (sym (c.open.ensures.seen tells))
@@ -76,7 +75,7 @@ returns-in_default-value-clause-answered g c tells =
     let name : List ℕ = c.args.name.now in
     let core = c.in-Ok.store.core in
     let e = entry_of c.in-Some.entry.now in
-    let there : named name core ≡ Some e = ap (named name) (sym (c.catalog.ensures.core ∙ c.core.ensures.core)) ∙ sym c.in-Some.ensures in (
+    let there : named name core ≡ Some e = ap (named name) (sym (c.catalog.ensures.core ∙ c.core.ensures.core)) ∙ sym c.in-Some.ensures.entry in (
       [],
       Appends-nil (g.O.Sink.taken c.args.out.now),
       subst (λ (l : List ℕ). SendAnswers (form_of c.args.order) seen name (Missing name) [] l) (sym (c.open.ensures.seen tells))
@@ -90,19 +89,19 @@ returns-in_default-value-clause-unfinished g c tells =
 pub write_stream-requires-clause-there : goal.write_stream-requires-clause-there
 write_stream-requires-clause-there g c =
     let core = c.in-Ok.store.core in
-    let there : named c.args.name.now core ≡ Some (entry_of c.in-Some.entry.now) = ap (named c.args.name.now) (sym (c.catalog.ensures.core ∙ c.core.ensures.core)) ∙ sym c.in-Some.ensures in
+    let there : named c.args.name.now core ≡ Some (entry_of c.in-Some.entry.now) = ap (named c.args.name.now) (sym (c.catalog.ensures.core ∙ c.core.ensures.core)) ∙ sym c.in-Some.ensures.entry in
     found_by core c.args.name.now (entry_of c.in-Some.entry.now) there c.in-Some-value.sub c.in-Some-value.is (subst (λ (k : Store (Option Place)). IsStore k) c.core.ensures.core c.catalog.ensures.apart)
 
 pub write_stream-requires-clause-kept : goal.write_stream-requires-clause-kept
 write_stream-requires-clause-kept g c =
     let core = c.in-Ok.store.core in
-    let there : named c.args.name.now core ≡ Some (entry_of c.in-Some.entry.now) = ap (named c.args.name.now) (sym (c.catalog.ensures.core ∙ c.core.ensures.core)) ∙ sym c.in-Some.ensures in
+    let there : named c.args.name.now core ≡ Some (entry_of c.in-Some.entry.now) = ap (named c.args.name.now) (sym (c.catalog.ensures.core ∙ c.core.ensures.core)) ∙ sym c.in-Some.ensures.entry in
     kept_by core c.args.name.now (entry_of c.in-Some.entry.now) there c.in-Some-value.sub c.in-Some-value.is c.in-Ok.store.log.gate (subst (λ (k : Store (Option Place)). AreKept c.in-Ok.store.log.gate k) c.core.ensures.core c.core.ensures.kept)
 
 pub write_stream-requires-clause-short : goal.write_stream-requires-clause-short
 write_stream-requires-clause-short g c =
     let core = c.in-Ok.store.core in
-    let there : named c.args.name.now core ≡ Some (entry_of c.in-Some.entry.now) = ap (named c.args.name.now) (sym (c.catalog.ensures.core ∙ c.core.ensures.core)) ∙ sym c.in-Some.ensures in
+    let there : named c.args.name.now core ≡ Some (entry_of c.in-Some.entry.now) = ap (named c.args.name.now) (sym (c.catalog.ensures.core ∙ c.core.ensures.core)) ∙ sym c.in-Some.ensures.entry in
     subst HasLength (sym c.as_slice.ensures.bytes) (name_short core c.args.name.now (entry_of c.in-Some.entry.now) there (subst (λ (k : Store (Option Place)). AreNamed k) c.core.ensures.core c.catalog.ensures.named))
 
 pub returns-in-Ok-write_stream-clause-answered : goal.returns-in-Ok-write_stream-clause-answered
@@ -112,7 +111,7 @@ returns-in-Ok-write_stream-clause-answered g c tells =
     let core = c.in-Ok.store.core in
     let e = entry_of c.in-Some.entry.now in
     let sub = c.in-Some-value.sub in
-    let there : named name core ≡ Some e = ap (named name) (sym (c.catalog.ensures.core ∙ c.core.ensures.core)) ∙ sym c.in-Some.ensures in
+    let there : named name core ≡ Some e = ap (named name) (sym (c.catalog.ensures.core ∙ c.core.ensures.core)) ∙ sym c.in-Some.ensures.entry in
     let stands = held_first seen _ _ c.in-Ok.store (c.open.ensures.seen tells) (c.in-Ok.ensures.holds tells) in
     let here = complete_one seen core name e sub there c.in-Some-value.is in
     let text = same_text c.args.order c.as_slice.result.now e.name e.key (g.D.Disk.seen c.open.new.disk) seen sub c.as_slice.ensures.bytes (c.open.ensures.seen tells) in
@@ -130,7 +129,7 @@ returns-in-Ok-write_stream-clause-received g c tells =
     let core = c.in-Ok.store.core in
     let e = entry_of c.in-Some.entry.now in
     let sub = c.in-Some-value.sub in
-    let there : named name core ≡ Some e = ap (named name) (sym (c.catalog.ensures.core ∙ c.core.ensures.core)) ∙ sym c.in-Some.ensures in
+    let there : named name core ≡ Some e = ap (named name) (sym (c.catalog.ensures.core ∙ c.core.ensures.core)) ∙ sym c.in-Some.ensures.entry in
     let stands = held_first seen _ _ c.in-Ok.store (c.open.ensures.seen tells) (c.in-Ok.ensures.holds tells) in
     let here = complete_one seen core name e sub there c.in-Some-value.is in
     let text = same_text c.args.order c.as_slice.result.now e.name e.key (g.D.Disk.seen c.open.new.disk) seen sub c.as_slice.ensures.bytes (c.open.ensures.seen tells) in
@@ -151,7 +150,7 @@ returns-clause-answered g c tells =
     let core = c.in-Ok.store.core in
     let e = entry_of c.in-Some.entry.now in
     let sub = c.in-Some-value.sub in
-    let there : named name core ≡ Some e = ap (named name) (sym (c.catalog.ensures.core ∙ c.core.ensures.core)) ∙ sym c.in-Some.ensures in
+    let there : named name core ≡ Some e = ap (named name) (sym (c.catalog.ensures.core ∙ c.core.ensures.core)) ∙ sym c.in-Some.ensures.entry in
     let stands = held_first seen _ _ c.in-Ok.store (c.open.ensures.seen tells) (c.in-Ok.ensures.holds tells) in
     let here = complete_one seen core name e sub there c.in-Some-value.is in
     let text = same_text c.args.order c.as_slice.result.now e.name e.key (g.D.Disk.seen c.open.new.disk) seen sub c.as_slice.ensures.bytes (c.open.ensures.seen tells) in
@@ -169,7 +168,7 @@ returns-clause-unfinished g c tells =
     let core = c.in-Ok.store.core in
     let e = entry_of c.in-Some.entry.now in
     let sub = c.in-Some-value.sub in
-    let there : named name core ≡ Some e = ap (named name) (sym (c.catalog.ensures.core ∙ c.core.ensures.core)) ∙ sym c.in-Some.ensures in
+    let there : named name core ≡ Some e = ap (named name) (sym (c.catalog.ensures.core ∙ c.core.ensures.core)) ∙ sym c.in-Some.ensures.entry in
     let stands = held_first seen _ _ c.in-Ok.store (c.open.ensures.seen tells) (c.in-Ok.ensures.holds tells) in
     let here = complete_one seen core name e sub there c.in-Some-value.is in
     let text = same_text c.args.order c.as_slice.result.now e.name e.key (g.D.Disk.seen c.open.new.disk) seen sub c.as_slice.ensures.bytes (c.open.ensures.seen tells) in

@@ -4,11 +4,11 @@ use Rattle.send_model.specs.Command.{End}
 use Rattle.send_model.specs.Receivable.{receivable}
 use Rattle.send_model.specs.Spelling.{canonical}
 use Rattle.send_model.specs.Subvolume.{Subvolume}
-use Rattle.sent_model.specs.Restored.{restored_edits, restored_stream}
-use Rattle.sent_model.specs.Sent.{sent_edits, sent_stream}
+use Rattle.snapshot_model.specs.Restored.{restored_edits, restored_stream}
+use Rattle.snapshot_model.specs.Sent.{sent_edits, sent_stream}
 use Rattle.inode_commands.specs.Spelled.{spelled_all}
-use Rattle.store_groups.specs.declared.place.Place.{Place}
-use Rattle.store_words.specs.declared.ends.StoreEnd.{StoreEnd}
+use Rattle.group_replay.specs.declared.place.Place.{Place}
+use Rattle.store_commands.specs.declared.ends.StoreEnd.{StoreEnd}
 use Rattle.subvol_catalog.specs.Entries.{key_of}
 use Rattle.subvol_catalog.specs.declared.key.Key.{Key}
 use Rattle.full_send.specs.Adding.{Adds}

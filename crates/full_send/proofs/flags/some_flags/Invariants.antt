@@ -1,7 +1,7 @@
 use Rattle.std.specs.Prelude.{◌≡◌, ◌||◌, false, length}
 use Rattle.send_model.specs.Map.{bytes_cmp}
 use Rattle.shared_map.specs.Sought.{entries_above}
-use Rattle.sent_model.specs.Listing.{paths_of}
+use Rattle.snapshot_model.specs.Listing.{paths_of}
 use Rattle.full_send.specs.Versions.{is_flagged, any_flagged}
 use Rattle.full_send.proofs.Walking.{Reached, so_far}
 use Rattle.full_send.proofs.flags.some_flags.Given as goal

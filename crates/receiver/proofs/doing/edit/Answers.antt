@@ -7,8 +7,8 @@ use Rattle.send_model.specs.Receive.{bytes_of}
 use Rattle.send_model.specs.Store.{edit_part}
 use Rattle.send_commands.specs.Meaning.{meaning_of}
 use Rattle.cmd_reader.specs.Next.{item_of}
-use Rattle.store_groups.specs.Taking.{as_runs}
-use Rattle.store_groups.specs.declared.place.Place.{Place}
+use Rattle.group_replay.specs.Taking.{as_runs}
+use Rattle.group_replay.specs.declared.place.Place.{Place}
 use Rattle.receiver.proofs.EditedParts.{none_edited, none_edit_moments, one_edited, not_edited, edit_room, no_edit_room, not_edit_ready, edit_keeps, edit_moments, not_edit_keeps}
 use Rattle.receiver.proofs.doing.edit.Goals as goal
 

@@ -1,5 +1,4 @@
 use Rattle.std.specs.Prelude.{ℕ, None, map, ◌+◌}
-use Rattle.std.specs.Option.{option_copied}
 use Rattle.std.specs.String.{string_bytes}
 use Rattle.std.proofs.Common.{refl, sym, ap, subst, ◌∙◌, arith}
 use Rattle.sx_base.proofs.Asking.{asked_nothing, asked_so, once_none, once_front}
@@ -23,7 +22,7 @@ loop-file-init g c = record {
   most = refl;
   idle = c.requires.idle;
   stand = λ base spot at on none.
-      all_start _ c.args.given.now.names.now (map string_bytes c.args.given.now.files.now) c.args.store.now.log.limit base spot (g.G.Guarding.kept c.args.guards.now) c.args.store.now _
+      all_start _ c.args.given.now.overrides.now (map string_bytes c.args.given.now.files.now) c.args.store.now.log.limit base spot (g.G.Guarding.kept c.args.guards.now) c.args.store.now _
       (RunsOn g.D.Disk (work c.args.disk.now c.args.store.now None) (work c.args.disk.now c.args.store.now None) None) at on none
       (run_starts g.D.Disk c.args.disk.now c.args.store.now None refl (λ tells image. g.met.D.Disk.only_now c.args.disk.now image tells));
 }
@@ -44,14 +43,14 @@ loop-file-preserved g c =
       most = e.limit ∙ i.most;
       idle = e.ready;
       stand = λ base spot at on none.
-          all_next _ _ c.args.given.now.names.now c.args.given.now.files.now c.loop-file.file c.args.store.now.log.limit base spot (g.G.Guarding.kept c.loop-file.guards) (g.G.Guarding.kept c.receive_file.new.guards) c.loop-file.store c.receive_file.new.store _ (g.O.Sink.taken c.loop-file.out) (g.O.Sink.taken c.receive_file.new.out)
+          all_next _ _ c.args.given.now.overrides.now c.args.given.now.files.now c.loop-file.file c.args.store.now.log.limit base spot (g.G.Guarding.kept c.loop-file.guards) (g.G.Guarding.kept c.receive_file.new.guards) c.loop-file.store c.receive_file.new.store _ (g.O.Sink.taken c.loop-file.out) (g.O.Sink.taken c.receive_file.new.out)
           (RunsOn g.D.Disk (work c.args.disk.now c.args.store.now None) (work c.loop-file.disk c.loop-file.store None) None)
           (RunsOn g.D.Disk (work c.loop-file.disk c.loop-file.store None) (work c.receive_file.new.disk c.receive_file.new.store None) None)
           (RunsOn g.D.Disk (work c.args.disk.now c.args.store.now None) (work c.receive_file.new.disk c.receive_file.new.store None) None)
           (λ now. LeavesOn g.D.Disk (work c.loop-file.disk c.loop-file.store None) c.receive_file.new.disk None)
           (StopsOn g.D.Disk (work c.loop-file.disk c.loop-file.store None) (work c.receive_file.new.disk c.receive_file.new.store None))
-          c.index-given-file.result c.as_str-name.result.now (option_copied c.of_file-new_name.result) c.receive_file.result c.in-Ok.field-0 i.same c.loop-file-test.true c.index-given-file.is (c.as_str-name.ensures.value ∙ ap string_bytes (sym c.index-given-file.is)) c.of_file-new_name.ensures.name c.in-Ok.is
-          (λ now here onward open_none. subst (λ (n : ℕ). IfTold (g.I.Inputs.told c.loop-file.inputs) c.as_str-name.result.now (FileEnds (option_copied c.of_file-new_name.result) (c.loop-file.file + 1) n base now (g.G.Guarding.kept c.receive_file.new.guards) c.receive_file.new.store (g.O.Sink.taken c.loop-file.out) (g.O.Sink.taken c.receive_file.new.out)
+          c.index-given-file.result c.as_str-name.result.now (c.of_file-said.result.now) c.receive_file.result c.in-Ok.field-0 i.same c.loop-file-test.true c.index-given-file.is (c.as_str-name.ensures.value ∙ ap string_bytes (sym c.index-given-file.is)) c.of_file-said.ensures.said c.in-Ok.is
+          (λ now here onward open_none. subst (λ (n : ℕ). IfTold (g.I.Inputs.told c.loop-file.inputs) c.as_str-name.result.now (FileEnds (c.of_file-said.result.now) (c.loop-file.file + 1) n base now (g.G.Guarding.kept c.receive_file.new.guards) c.receive_file.new.store (g.O.Sink.taken c.loop-file.out) (g.O.Sink.taken c.receive_file.new.out)
           (RunsOn g.D.Disk (work c.loop-file.disk c.loop-file.store None) (work c.receive_file.new.disk c.receive_file.new.store None) None)
           (LeavesOn g.D.Disk (work c.loop-file.disk c.loop-file.store None) c.receive_file.new.disk None)
           (StopsOn g.D.Disk (work c.loop-file.disk c.loop-file.store None) (work c.receive_file.new.disk c.receive_file.new.store None)) c.receive_file.result)) i.most
@@ -63,7 +62,7 @@ loop-file-preserved g c =
 pub returns-in-Err-clause-received : goal.returns-in-Err-clause-received
 returns-in-Err-clause-received g c base spot at on none =
     let i = c.loop-file.invariant in
-    all_stop _ _ c.args.given.now.names.now c.args.given.now.files.now c.loop-file.file c.args.store.now.log.limit base spot (g.G.Guarding.kept c.loop-file.guards) (g.G.Guarding.kept c.receive_file.new.guards) c.loop-file.store c.receive_file.new.store _ (g.O.Sink.taken c.loop-file.out) (g.O.Sink.taken c.receive_file.new.out)
+    all_stop _ _ c.args.given.now.overrides.now c.args.given.now.files.now c.loop-file.file c.args.store.now.log.limit base spot (g.G.Guarding.kept c.loop-file.guards) (g.G.Guarding.kept c.receive_file.new.guards) c.loop-file.store c.receive_file.new.store _ (g.O.Sink.taken c.loop-file.out) (g.O.Sink.taken c.receive_file.new.out)
     (RunsOn g.D.Disk (work c.args.disk.now c.args.store.now None) (work c.loop-file.disk c.loop-file.store None) None)
     (RunsOn g.D.Disk (work c.loop-file.disk c.loop-file.store None) (work c.receive_file.new.disk c.receive_file.new.store None) None)
     (RunsOn g.D.Disk (work c.args.disk.now c.args.store.now None) (work c.receive_file.new.disk c.receive_file.new.store None) None)
@@ -71,8 +70,8 @@ returns-in-Err-clause-received g c base spot at on none =
     (LeavesOn g.D.Disk (work c.args.disk.now c.args.store.now None) c.receive_file.new.disk None)
     (StopsOn g.D.Disk (work c.loop-file.disk c.loop-file.store None) (work c.receive_file.new.disk c.receive_file.new.store None))
     (StopsOn g.D.Disk (work c.args.disk.now c.args.store.now None) (work c.receive_file.new.disk c.receive_file.new.store None))
-    c.index-given-file.result c.as_str-name.result.now (option_copied c.of_file-new_name.result) c.receive_file.result c.in-Err.ended i.same c.loop-file-test.true c.index-given-file.is (c.as_str-name.ensures.value ∙ ap string_bytes (sym c.index-given-file.is)) c.of_file-new_name.ensures.name c.in-Err.is
-    (λ now here onward open_none. subst (λ (n : ℕ). IfTold (g.I.Inputs.told c.loop-file.inputs) c.as_str-name.result.now (FileEnds (option_copied c.of_file-new_name.result) (c.loop-file.file + 1) n base now (g.G.Guarding.kept c.receive_file.new.guards) c.receive_file.new.store (g.O.Sink.taken c.loop-file.out) (g.O.Sink.taken c.receive_file.new.out)
+    c.index-given-file.result c.as_str-name.result.now (c.of_file-said.result.now) c.receive_file.result c.in-Err.ended i.same c.loop-file-test.true c.index-given-file.is (c.as_str-name.ensures.value ∙ ap string_bytes (sym c.index-given-file.is)) c.of_file-said.ensures.said c.in-Err.is
+    (λ now here onward open_none. subst (λ (n : ℕ). IfTold (g.I.Inputs.told c.loop-file.inputs) c.as_str-name.result.now (FileEnds (c.of_file-said.result.now) (c.loop-file.file + 1) n base now (g.G.Guarding.kept c.receive_file.new.guards) c.receive_file.new.store (g.O.Sink.taken c.loop-file.out) (g.O.Sink.taken c.receive_file.new.out)
     (RunsOn g.D.Disk (work c.loop-file.disk c.loop-file.store None) (work c.receive_file.new.disk c.receive_file.new.store None) None)
     (LeavesOn g.D.Disk (work c.loop-file.disk c.loop-file.store None) c.receive_file.new.disk None)
     (StopsOn g.D.Disk (work c.loop-file.disk c.loop-file.store None) (work c.receive_file.new.disk c.receive_file.new.store None)) c.receive_file.result)) i.most
@@ -83,7 +82,7 @@ returns-in-Err-clause-received g c base spot at on none =
 
 pub returns-clause-received : goal.returns-clause-received
 returns-clause-received g c base spot at on none =
-    all_end _ c.args.given.now.names.now c.args.given.now.files.now c.loop-file.file c.args.store.now.log.limit base spot (g.G.Guarding.kept c.loop-file.guards) c.loop-file.store _ (g.O.Sink.taken c.loop-file.out)
+    all_end _ c.args.given.now.overrides.now c.args.given.now.files.now c.loop-file.file c.args.store.now.log.limit base spot (g.G.Guarding.kept c.loop-file.guards) c.loop-file.store _ (g.O.Sink.taken c.loop-file.out)
     (RunsOn g.D.Disk (work c.args.disk.now c.args.store.now None) (work c.loop-file.disk c.loop-file.store None) None)
     (LeavesOn g.D.Disk (work c.args.disk.now c.args.store.now None) c.loop-file.disk None)
     (StopsOn g.D.Disk (work c.args.disk.now c.args.store.now None) (work c.loop-file.disk c.loop-file.store None))

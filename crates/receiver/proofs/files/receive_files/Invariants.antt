@@ -26,7 +26,7 @@ invariant-loop-file g l = record {
   most : l.store.log.limit ≡ l.fn.store.log.limit;
   idle : IsIdle (g.D.Disk.len l.disk) l.store;
   stand : (base : Store ℕ) (spot : Spot) → IsAt spot (g.G.Guarding.kept l.fn.guards) l.fn.store None → IsOn base spot.watched.state.store spot.watched.state.part → spot.begun ≡ None
-      → IfAllTold (g.I.Inputs.told l.fn.inputs) (map string_bytes l.fn.given.files.now) (AllStand l.fn.given.names.now l.file l.fn.store.log.limit base spot (g.G.Guarding.kept l.guards) l.store (g.O.Sink.taken l.fn.out) (g.O.Sink.taken l.out)
+      → IfAllTold (g.I.Inputs.told l.fn.inputs) (map string_bytes l.fn.given.files.now) (AllStand l.fn.given.overrides.now l.file l.fn.store.log.limit base spot (g.G.Guarding.kept l.guards) l.store (g.O.Sink.taken l.fn.out) (g.O.Sink.taken l.out)
       (RunsOn g.D.Disk (work l.fn.disk l.fn.store None) (work l.disk l.store None) None));
 }
 

@@ -1,11 +1,10 @@
 use Rattle.std.specs.Prelude.{ℕ, [], None, Some, Ok, Err, ◌++◌}
-use Rattle.std.specs.Option.{option_copied}
 use Rattle.sx_base.specs.declared.outcome.Outcome.TheVariants as ended
 use Rattle.std.proofs.Common.{rules, refl, sym, ap, subst, ◌∙◌, arith}
 use Rattle.std.proofs.lemmas.Bool.{false≢true}
 use Rattle.send_commands.specs.Meaning.{meaning_of}
 use Rattle.cmd_reader.specs.Left.{Reader}
-use Rattle.part_names.specs.Naming.{IsNamed}
+use Rattle.part_names.specs.Overriding.{IsOverridden}
 use Rattle.cmd_reader.specs.Next.{item_of}
 use Rattle.cmd_reader.specs.declared.item.ReadStop.TheVariants as stop
 use Rattle.sx_base.proofs.Asking.{asked_nothing, asked_so, read_none}
@@ -27,7 +26,7 @@ use Rattle.receiver.proofs.files.receive_items.Goals as goal
 
 pub returns-in_default-clause-received : goal.returns-in_default-clause-received
 returns-in_default-clause-received g c base spot at on none =
-    file_unopened (g.I.Inputs.told c.args.inputs.now) (option_copied c.args.file.now.new_name) c.args.file.now.number c.args.store.now.log.limit c.args.file.now.name.now base spot (g.G.Guarding.kept c.args.guards.now) c.args.store.now (g.O.Sink.taken c.args.out.now)
+    file_unopened (g.I.Inputs.told c.args.inputs.now) (c.args.file.now.said.now) c.args.file.now.number c.args.store.now.log.limit c.args.file.now.name.now base spot (g.G.Guarding.kept c.args.guards.now) c.args.store.now (g.O.Sink.taken c.args.out.now)
     (RunsOn g.D.Disk (work c.args.disk.now c.args.store.now None) (work c.args.disk.now c.args.store.now None) None)
     (LeavesOn g.D.Disk (work c.args.disk.now c.args.store.now None) c.args.disk.now None)
     (StopsOn g.D.Disk (work c.args.disk.now c.args.store.now None) (work c.args.disk.now c.args.store.now None)) on
@@ -52,7 +51,7 @@ loop-frame-init g c =
       ready = search rules;
       at_end = λ e. absurd (false≢true (sym (ap (λ (r : Reader). r.fed.ended) fresh) ∙ e));
       stands = λ base spot at on none.
-          stands_at_start (g.I.Inputs.told c.args.inputs.now) (option_copied c.args.file.now.new_name) c.args.file.now.number c.args.store.now.log.limit c.args.file.now.name.now base spot c.in-Ok.reader (g.G.Guarding.kept c.args.guards.now) c.args.store.now None (g.O.Sink.taken c.args.out.now) _ fresh
+          stands_at_start (g.I.Inputs.told c.args.inputs.now) (c.args.file.now.said.now) c.args.file.now.number c.args.store.now.log.limit c.args.file.now.name.now base spot c.in-Ok.reader (g.G.Guarding.kept c.args.guards.now) c.args.store.now None (g.O.Sink.taken c.args.out.now) _ fresh
           at on none
           (run_starts g.D.Disk c.args.disk.now c.args.store.now None refl (λ tells image. g.met.D.Disk.only_now c.args.disk.now image tells));
       ahead = start_ahead _ c.args.file.now.number c.args.file.now.name.now c.in-Ok.reader fresh;
@@ -62,7 +61,7 @@ pub returns-in-Ok-None-clause-received : goal.returns-in-Ok-None-clause-received
 returns-in-Ok-None-clause-received g c base spot at on none =
     let i = c.loop-frame.invariant in
     let ends = i.at_end (ended_behind (g.I.Inputs.told c.loop-frame.inputs) c.loop-frame.reader c.advance.new.self c.in-Ok-None.field-0 c.in-Ok-None.field-0-is c.in-Ok-None.ensures.says) in
-    file_done _ _ (option_copied c.args.file.now.new_name) c.args.file.now.number c.args.store.now.log.limit c.args.file.now.name.now base spot c.loop-frame.reader c.advance.new.self (g.G.Guarding.kept c.loop-frame.guards) c.loop-frame.store c.loop-frame.current _ _
+    file_done _ _ (c.args.file.now.said.now) c.args.file.now.number c.args.store.now.log.limit c.args.file.now.name.now base spot c.loop-frame.reader c.advance.new.self (g.G.Guarding.kept c.loop-frame.guards) c.loop-frame.store c.loop-frame.current _ _
     (RunsOn g.D.Disk (work c.args.disk.now c.args.store.now None) (work c.loop-frame.disk c.loop-frame.store c.loop-frame.current) None)
     (LeavesOn g.D.Disk (work c.args.disk.now c.args.store.now None) c.loop-frame.disk None)
     (StopsOn g.D.Disk (work c.args.disk.now c.args.store.now None) (work c.loop-frame.disk c.loop-frame.store c.loop-frame.current)) 0 0
@@ -74,10 +73,10 @@ loop-frame-preserved g c =
     let e = c.in-Ok-Some.ensures in
     let came = given_next (g.I.Inputs.told c.loop-frame.inputs) c.loop-frame.reader c.advance.new.self c.in-Ok-Some.field-0 c.in-Ok-Some.frame c.in-Ok-item.item c.in-Ok-Some.field-0-is c.in-Ok-Some.ensures.says c.item.ensures.bytes c.in-Ok-item.ensures.says in
     let m = came.fits in
-    let given = subst (IsNamed (option_copied c.args.file.now.new_name) c.in-Ok-item.item) (sym c.given_or-named.ensures) c.rename-renamed.ensures.named in
-    let fits = given_fits (option_copied c.args.file.now.new_name) c.args.file.now.number c.loop-frame.reader c.advance.new.self c.in-Ok-item.item c.given_or-named.result.now m (given.named c.args.file.now.number) given.can_write in
+    let given = subst (IsOverridden (c.args.file.now.said.now) c.in-Ok-item.item) (sym c.given_or-meant.ensures) c.override_item-changed.ensures.meant in
+    let fits = given_fits (c.args.file.now.said.now) c.args.file.now.number c.loop-frame.reader c.advance.new.self c.in-Ok-item.item c.given_or-meant.result.now m (given.meant c.args.file.now.number) given.can_write in
     let r = c.in-Ok-received.ensures in
-    let item = item_of c.args.file.now.number c.given_or-named.result.now in
+    let item = item_of c.args.file.now.number c.given_or-meant.result.now in
     let guards = g.G.Guarding.kept c.loop-frame.guards in
     record {
       same = e.same ∙ i.same;
@@ -91,13 +90,13 @@ loop-frame-preserved g c =
       name = e.name ∙ i.name;
       within = m.within;
       ready = r.ready;
-      at_end = at_stream_end c.advance.new.self.fed.ended c.advance.new.self.fed.due c.given_or-named.result.now.version (meaning_of c.given_or-named.result.now.command) c.receive_item-received.new.current fits.at_end fits.due r.at_end;
+      at_end = at_stream_end c.advance.new.self.fed.ended c.advance.new.self.fed.due c.given_or-meant.result.now.version (meaning_of c.given_or-meant.result.now.command) c.receive_item-received.new.current fits.at_end fits.due r.at_end;
       stands = λ base spot at on none.
-          stands_after _ _ (option_copied c.args.file.now.new_name) c.args.file.now.number c.args.store.now.log.limit _ c.args.file.now.name.now base spot c.loop-frame.reader c.advance.new.self guards (g.G.Guarding.kept c.receive_item-received.new.guards) c.loop-frame.store c.receive_item-received.new.store
+          stands_after _ _ (c.args.file.now.said.now) c.args.file.now.number c.args.store.now.log.limit _ c.args.file.now.name.now base spot c.loop-frame.reader c.advance.new.self guards (g.G.Guarding.kept c.receive_item-received.new.guards) c.loop-frame.store c.receive_item-received.new.store
           c.loop-frame.current c.receive_item-received.new.current _ (g.O.Sink.taken c.loop-frame.out) (g.O.Sink.taken c.receive_item-received.new.out)
           (RunsOn g.D.Disk (work c.args.disk.now c.args.store.now None) (work c.loop-frame.disk c.loop-frame.store c.loop-frame.current) None)
           (RunsOn g.D.Disk (work c.args.disk.now c.args.store.now None) (work c.receive_item-received.new.disk c.receive_item-received.new.store c.receive_item-received.new.current) None)
-          0 0 (Some c.in-Ok-item.item) c.in-Ok-item.item c.given_or-named.result.now refl i.same i.name i.file came.read (given.named c.args.file.now.number) fits i.ready r.followed
+          0 0 (Some c.in-Ok-item.item) c.in-Ok-item.item c.given_or-meant.result.now refl i.same i.name i.file came.read (given.meant c.args.file.now.number) fits i.ready r.followed
           (subst (λ (n : ℕ). PiecesSay (Ok tt) n (behind_close c.loop-frame.current item.command (place_of c.loop-frame.store c.loop-frame.current)) (place_of c.receive_item-received.new.store c.receive_item-received.new.current) item) i.most r.pieces)
           r.written
           (λ groups begun version run.
@@ -115,20 +114,20 @@ returns-in-Err-received-clause-received g c base spot at on none =
     let e = c.in-Ok-Some.ensures in
     let came = given_next (g.I.Inputs.told c.loop-frame.inputs) c.loop-frame.reader c.advance.new.self c.in-Ok-Some.field-0 c.in-Ok-Some.frame c.in-Ok-item.item c.in-Ok-Some.field-0-is c.in-Ok-Some.ensures.says c.item.ensures.bytes c.in-Ok-item.ensures.says in
     let m = came.fits in
-    let given = subst (IsNamed (option_copied c.args.file.now.new_name) c.in-Ok-item.item) (sym c.given_or-named.ensures) c.rename-renamed.ensures.named in
-    let fits = given_fits (option_copied c.args.file.now.new_name) c.args.file.now.number c.loop-frame.reader c.advance.new.self c.in-Ok-item.item c.given_or-named.result.now m (given.named c.args.file.now.number) given.can_write in
+    let given = subst (IsOverridden (c.args.file.now.said.now) c.in-Ok-item.item) (sym c.given_or-meant.ensures) c.override_item-changed.ensures.meant in
+    let fits = given_fits (c.args.file.now.said.now) c.args.file.now.number c.loop-frame.reader c.advance.new.self c.in-Ok-item.item c.given_or-meant.result.now m (given.meant c.args.file.now.number) given.can_write in
     let r = c.in-Err-received.ensures in
-    let item = item_of c.args.file.now.number c.given_or-named.result.now in
+    let item = item_of c.args.file.now.number c.given_or-meant.result.now in
     let guards = g.G.Guarding.kept c.loop-frame.guards in
-    file_item _ _ (option_copied c.args.file.now.new_name) c.args.file.now.number c.args.store.now.log.limit _ c.args.file.now.name.now base spot c.loop-frame.reader c.advance.new.self guards (g.G.Guarding.kept c.receive_item-received.new.guards) c.loop-frame.store c.receive_item-received.new.store
+    file_item _ _ (c.args.file.now.said.now) c.args.file.now.number c.args.store.now.log.limit _ c.args.file.now.name.now base spot c.loop-frame.reader c.advance.new.self guards (g.G.Guarding.kept c.receive_item-received.new.guards) c.loop-frame.store c.receive_item-received.new.store
     c.loop-frame.current c.receive_item-received.new.current _ (g.O.Sink.taken c.loop-frame.out) (g.O.Sink.taken c.receive_item-received.new.out)
     (RunsOn g.D.Disk (work c.args.disk.now c.args.store.now None) (work c.loop-frame.disk c.loop-frame.store c.loop-frame.current) None)
     (RunsOn g.D.Disk (work c.args.disk.now c.args.store.now None) (work c.receive_item-received.new.disk c.receive_item-received.new.store c.receive_item-received.new.current) None)
     (LeavesOn g.D.Disk (work c.args.disk.now c.args.store.now None) c.receive_item-received.new.disk None)
     (StopsOn g.D.Disk (work c.args.disk.now c.args.store.now None) (work c.receive_item-received.new.disk c.receive_item-received.new.store c.receive_item-received.new.current))
-    (HasNow g.D.Disk (work c.loop-frame.disk c.loop-frame.store c.loop-frame.current) c.receive_item-received.new.disk c.given_or-named.result.now.version (closed_by guards item.command)
+    (HasNow g.D.Disk (work c.loop-frame.disk c.loop-frame.store c.loop-frame.current) c.receive_item-received.new.disk c.given_or-meant.result.now.version (closed_by guards item.command)
     (begun_if (follow (beside guards (blank_of c.loop-frame.store c.loop-frame.current)) item) item.command))
-    0 0 (Some c.in-Ok-item.item) c.in-Ok-item.item c.given_or-named.result.now c.in-Err-received.why refl i.same i.name i.file came.read (given.named c.args.file.now.number) fits i.ready r.followed
+    0 0 (Some c.in-Ok-item.item) c.in-Ok-item.item c.given_or-meant.result.now c.in-Err-received.why refl i.same i.name i.file came.read (given.meant c.args.file.now.number) fits i.ready r.followed
     (subst (λ (n : ℕ). PiecesSay (Err c.in-Err-received.why) n (behind_close c.loop-frame.current item.command (place_of c.loop-frame.store c.loop-frame.current)) (place_of c.receive_item-received.new.store c.receive_item-received.new.current) item) i.most r.pieces)
     r.written
     (λ groups more begun version run.
@@ -146,7 +145,7 @@ returns-in-Err-received-clause-received g c base spot at on none =
 pub returns-in-Err-clause-received : goal.returns-in-Err-clause-received
 returns-in-Err-clause-received g c base spot at on none =
     let i = c.loop-frame.invariant in
-    file_read_stops _ _ (option_copied c.args.file.now.new_name) c.args.file.now.number c.args.store.now.log.limit c.args.file.now.name.now base spot c.loop-frame.reader c.advance.new.self (g.G.Guarding.kept c.loop-frame.guards) c.loop-frame.store c.loop-frame.current _ (g.O.Sink.taken c.loop-frame.out)
+    file_read_stops _ _ (c.args.file.now.said.now) c.args.file.now.number c.args.store.now.log.limit c.args.file.now.name.now base spot c.loop-frame.reader c.advance.new.self (g.G.Guarding.kept c.loop-frame.guards) c.loop-frame.store c.loop-frame.current _ (g.O.Sink.taken c.loop-frame.out)
     (RunsOn g.D.Disk (work c.args.disk.now c.args.store.now None) (work c.loop-frame.disk c.loop-frame.store c.loop-frame.current) None)
     (RunsOn g.D.Disk (work c.args.disk.now c.args.store.now None) (work c.loop-frame.disk c.loop-frame.store c.loop-frame.current) None)
     (LeavesOn g.D.Disk (work c.args.disk.now c.args.store.now None) c.loop-frame.disk None)
@@ -161,7 +160,7 @@ pub returns-in-Err-item-clause-received : goal.returns-in-Err-item-clause-receiv
 returns-in-Err-item-clause-received g c base spot at on none =
     let i = c.loop-frame.invariant in
     let verdict = c.in-Err-item.verdict in
-    file_read_stops _ _ (option_copied c.args.file.now.new_name) c.args.file.now.number c.args.store.now.log.limit c.args.file.now.name.now base spot c.loop-frame.reader c.advance.new.self (g.G.Guarding.kept c.loop-frame.guards) c.loop-frame.store c.loop-frame.current _ (g.O.Sink.taken c.loop-frame.out)
+    file_read_stops _ _ (c.args.file.now.said.now) c.args.file.now.number c.args.store.now.log.limit c.args.file.now.name.now base spot c.loop-frame.reader c.advance.new.self (g.G.Guarding.kept c.loop-frame.guards) c.loop-frame.store c.loop-frame.current _ (g.O.Sink.taken c.loop-frame.out)
     (RunsOn g.D.Disk (work c.args.disk.now c.args.store.now None) (work c.loop-frame.disk c.loop-frame.store c.loop-frame.current) None)
     (RunsOn g.D.Disk (work c.args.disk.now c.args.store.now None) (work c.loop-frame.disk c.loop-frame.store c.loop-frame.current) None)
     (LeavesOn g.D.Disk (work c.args.disk.now c.args.store.now None) c.loop-frame.disk None)
@@ -181,15 +180,15 @@ pub receive_item-received-requires-clause-spellable : goal.receive_item-received
 receive_item-received-requires-clause-spellable g c =
     let came = given_next (g.I.Inputs.told c.loop-frame.inputs) c.loop-frame.reader c.advance.new.self c.in-Ok-Some.field-0 c.in-Ok-Some.frame c.in-Ok-item.item c.in-Ok-Some.field-0-is c.in-Ok-Some.ensures.says c.item.ensures.bytes c.in-Ok-item.ensures.says in
     let m = came.fits in
-    let given = subst (IsNamed (option_copied c.args.file.now.new_name) c.in-Ok-item.item) (sym c.given_or-named.ensures) c.rename-renamed.ensures.named in
-    (given_fits (option_copied c.args.file.now.new_name) c.args.file.now.number c.loop-frame.reader c.advance.new.self c.in-Ok-item.item c.given_or-named.result.now m (given.named c.args.file.now.number) given.can_write).can_write.spellable
+    let given = subst (IsOverridden (c.args.file.now.said.now) c.in-Ok-item.item) (sym c.given_or-meant.ensures) c.override_item-changed.ensures.meant in
+    (given_fits (c.args.file.now.said.now) c.args.file.now.number c.loop-frame.reader c.advance.new.self c.in-Ok-item.item c.given_or-meant.result.now m (given.meant c.args.file.now.number) given.can_write).can_write.spellable
 
 pub receive_item-received-requires-clause-version : goal.receive_item-received-requires-clause-version
 receive_item-received-requires-clause-version g c =
     let came = given_next (g.I.Inputs.told c.loop-frame.inputs) c.loop-frame.reader c.advance.new.self c.in-Ok-Some.field-0 c.in-Ok-Some.frame c.in-Ok-item.item c.in-Ok-Some.field-0-is c.in-Ok-Some.ensures.says c.item.ensures.bytes c.in-Ok-item.ensures.says in
     let m = came.fits in
-    let given = subst (IsNamed (option_copied c.args.file.now.new_name) c.in-Ok-item.item) (sym c.given_or-named.ensures) c.rename-renamed.ensures.named in
-    (given_fits (option_copied c.args.file.now.new_name) c.args.file.now.number c.loop-frame.reader c.advance.new.self c.in-Ok-item.item c.given_or-named.result.now m (given.named c.args.file.now.number) given.can_write).version
+    let given = subst (IsOverridden (c.args.file.now.said.now) c.in-Ok-item.item) (sym c.given_or-meant.ensures) c.override_item-changed.ensures.meant in
+    (given_fits (c.args.file.now.said.now) c.args.file.now.number c.loop-frame.reader c.advance.new.self c.in-Ok-item.item c.given_or-meant.result.now m (given.meant c.args.file.now.number) given.can_write).version
 
 pub returns-in_default-clause-asked : goal.returns-in_default-clause-asked
 returns-in_default-clause-asked g c = asked_nothing g.I.Inputs c.args.inputs.now (0, read_none c.args.file.now.name.now 0)

@@ -1,5 +1,4 @@
 use Rattle.std.specs.Prelude.{true, None, ℕ}
-use Rattle.std.specs.Option.{option_copied}
 use Rattle.std.proofs.Common.{◌≡◌, ◌≤◌, ◌-◌}
 use Rattle.send_model.specs.Reading.{HeaderDue}
 use Rattle.send_model.specs.Store.{Store}
@@ -31,7 +30,7 @@ invariant-loop-frame g l = record {
   ready : IsReady (g.D.Disk.len l.disk) l.current l.store;
   at_end : l.reader.fed.ended ≡ true → (l.current ≡ None) × (l.reader.fed.due ≡ HeaderDue);
   stands : (base : Store ℕ) (spot : Spot) → IsAt spot (g.G.Guarding.kept l.fn.guards) l.fn.store None → IsOn base spot.watched.state.store spot.watched.state.part → spot.begun ≡ None
-      → IfTold (g.I.Inputs.told l.fn.inputs) l.fn.file.name.now (Stands (option_copied l.fn.file.new_name) l.fn.file.number l.fn.store.log.limit base spot l.reader (g.G.Guarding.kept l.guards) l.store l.current (g.O.Sink.taken l.fn.out) (g.O.Sink.taken l.out)
+      → IfTold (g.I.Inputs.told l.fn.inputs) l.fn.file.name.now (Stands (l.fn.file.said.now) l.fn.file.number l.fn.store.log.limit base spot l.reader (g.G.Guarding.kept l.guards) l.store l.current (g.O.Sink.taken l.fn.out) (g.O.Sink.taken l.out)
       (RunsOn g.D.Disk (work l.fn.disk l.fn.store None) (work l.disk l.store l.current) None));
   ahead : IfTold (g.I.Inputs.told l.inputs) l.reader.name (HasAhead l.reader);
 }

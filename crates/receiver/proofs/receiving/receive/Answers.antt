@@ -9,7 +9,7 @@ pub returns-in-Ok-clause-received : goal.returns-in-Ok-clause-received
 returns-in-Ok-clause-received g c base same =
     let guards = g.G.Guarding.kept c.args.guards.now in
     let gate = c.args.store.now.log.gate in
-    told_done c.args.store.now.log.limit gate base guards c.args.given.now.names.now g.D.Disk c.args.disk.now c.receive_files.new.disk (g.G.Guarding.kept c.receive_files.new.guards) c.args.store.now c.receive_files.new.store (g.O.Sink.taken c.args.out.now) (g.O.Sink.taken c.receive_files.new.out)
+    told_done c.args.store.now.log.limit gate base guards c.args.given.now.overrides.now g.D.Disk c.args.disk.now c.receive_files.new.disk (g.G.Guarding.kept c.receive_files.new.guards) c.args.store.now c.receive_files.new.store (g.O.Sink.taken c.args.out.now) (g.O.Sink.taken c.receive_files.new.out)
     (g.I.Inputs.told c.args.inputs.now) (map string_bytes c.args.given.now.files.now) c.receive_files.result c.in-Ok.field-0 c.in-Ok.is
     (c.receive_files.ensures.received base (first_spot gate base guards) (at_first gate base guards c.args.store.now refl same) (on_first base) refl)
 
@@ -17,7 +17,7 @@ pub returns-in-Err-clause-received : goal.returns-in-Err-clause-received
 returns-in-Err-clause-received g c base same =
     let guards = g.G.Guarding.kept c.args.guards.now in
     let gate = c.args.store.now.log.gate in
-    told_ended c.args.store.now.log.limit gate base guards c.args.given.now.names.now g.D.Disk c.args.disk.now c.receive_files.new.disk (g.G.Guarding.kept c.receive_files.new.guards) c.args.store.now c.receive_files.new.store (g.O.Sink.taken c.args.out.now) (g.O.Sink.taken c.receive_files.new.out)
+    told_ended c.args.store.now.log.limit gate base guards c.args.given.now.overrides.now g.D.Disk c.args.disk.now c.receive_files.new.disk (g.G.Guarding.kept c.receive_files.new.guards) c.args.store.now c.receive_files.new.store (g.O.Sink.taken c.args.out.now) (g.O.Sink.taken c.receive_files.new.out)
     (g.I.Inputs.told c.args.inputs.now) (map string_bytes c.args.given.now.files.now) c.receive_files.result c.in-Err.ended c.in-Err.is
     (c.receive_files.ensures.received base (first_spot gate base guards) (at_first gate base guards c.args.store.now refl same) (on_first base) refl)
 
@@ -25,7 +25,7 @@ pub returns-in-Ok-clause-any_moment : goal.returns-in-Ok-clause-any_moment
 returns-in-Ok-clause-any_moment g c tells header groups holds base same =
     let guards = g.G.Guarding.kept c.args.guards.now in
     let gate = c.args.store.now.log.gate in
-    told_moments c.args.store.now.log.limit gate base guards c.args.given.now.names.now g.D.Disk c.args.disk.now c.receive_files.new.disk (g.G.Guarding.kept c.receive_files.new.guards) c.args.store.now c.receive_files.new.store (g.O.Sink.taken c.args.out.now) (g.O.Sink.taken c.receive_files.new.out)
+    told_moments c.args.store.now.log.limit gate base guards c.args.given.now.overrides.now g.D.Disk c.args.disk.now c.receive_files.new.disk (g.G.Guarding.kept c.receive_files.new.guards) c.args.store.now c.receive_files.new.store (g.O.Sink.taken c.args.out.now) (g.O.Sink.taken c.receive_files.new.out)
     (g.I.Inputs.told c.args.inputs.now) (map string_bytes c.args.given.now.files.now) c.receive_files.result tells header groups holds
     (c.receive_files.ensures.received base (first_spot gate base guards) (at_first gate base guards c.args.store.now refl same) (on_first base) refl)
 
@@ -33,7 +33,7 @@ pub returns-in-Err-clause-any_moment : goal.returns-in-Err-clause-any_moment
 returns-in-Err-clause-any_moment g c tells header groups holds base same =
     let guards = g.G.Guarding.kept c.args.guards.now in
     let gate = c.args.store.now.log.gate in
-    told_moments c.args.store.now.log.limit gate base guards c.args.given.now.names.now g.D.Disk c.args.disk.now c.receive_files.new.disk (g.G.Guarding.kept c.receive_files.new.guards) c.args.store.now c.receive_files.new.store (g.O.Sink.taken c.args.out.now) (g.O.Sink.taken c.receive_files.new.out)
+    told_moments c.args.store.now.log.limit gate base guards c.args.given.now.overrides.now g.D.Disk c.args.disk.now c.receive_files.new.disk (g.G.Guarding.kept c.receive_files.new.guards) c.args.store.now c.receive_files.new.store (g.O.Sink.taken c.args.out.now) (g.O.Sink.taken c.receive_files.new.out)
     (g.I.Inputs.told c.args.inputs.now) (map string_bytes c.args.given.now.files.now) c.receive_files.result tells header groups holds
     (c.receive_files.ensures.received base (first_spot gate base guards) (at_first gate base guards c.args.store.now refl same) (on_first base) refl)
 

@@ -1,7 +1,7 @@
 use Rattle.std.specs.Prelude.{ℕ, List, None, ◌++◌}
 use Rattle.send_model.specs.Store.{step}
 use Rattle.clone_resolve.specs.Steps.{cells_put}
-use Rattle.store_groups.specs.Placing.{further}
+use Rattle.group_replay.specs.Placing.{further}
 use Rattle.send_commands.specs.Meaning.{meaning_of}
 use Rattle.cmd_reader.specs.Next.{item_of}
 use Rattle.sx_base.specs.Disk.{IsImage}

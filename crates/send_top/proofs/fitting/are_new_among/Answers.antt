@@ -5,7 +5,7 @@ use Rattle.std.proofs.Common.{sym, ap, ◌∙◌, arith, subst}
 use Rattle.std.proofs.lemmas.Bool.{false≢true, eqb-true, eq-eqb}
 use Rattle.std.proofs.lemmas.List.{drop_all, length-map, length-drop}
 use Rattle.send_model.specs.Guards.{Guard, new_guard, guard_of, is_guard_word}
-use Rattle.word_model.proofs.TurnGuards.{Fits, fits_start, fits_file, fits_guard, fits_not, fits_ended, fits_end}
+use Rattle.program_model.proofs.TurnGuards.{Fits, fits_start, fits_file, fits_guard, fits_not, fits_ended, fits_end}
 use Rattle.send_top.specs.Requests.{turns_in}
 use Rattle.send_top.proofs.GuardPlaces.{word_here}
 use Rattle.send_top.proofs.TurnsRead.{are_in}

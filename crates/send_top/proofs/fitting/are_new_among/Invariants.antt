@@ -1,7 +1,7 @@
 use Rattle.std.proofs.Common.{map, drop, length, ◌≤◌}
 use Rattle.std.specs.String.{string_bytes}
 use Rattle.send_top.specs.Requests.{turns_in}
-use Rattle.word_model.proofs.TurnGuards.{Fits}
+use Rattle.program_model.proofs.TurnGuards.{Fits}
 use Rattle.send_top.proofs.fitting.are_new_among.Given as goal
 
 abbrev pub invariant-loop-place : goal.invariant-loop-place

@@ -3,7 +3,7 @@ use Rattle.std.specs.String.{string_bytes}
 use Rattle.std.proofs.Common.{sym, ap, ◌∙◌, subst}
 use Rattle.std.proofs.lemmas.List.{drop-map, take_rest}
 use Rattle.send_model.specs.Words.{new_guards}
-use Rattle.word_model.specs.AllRequests.{turn_files}
+use Rattle.program_model.specs.AllRequests.{turn_files}
 use Rattle.send_top.specs.Requests.{turns_in, StoreFits, specs_of, store_meant}
 use Rattle.send_top.specs.declared.words.StoreRequest.{StoreRequest}
 use Rattle.send_top.proofs.fitting.guards_fit_store.Goals as goal

@@ -9,14 +9,14 @@ use Rattle.send_model.specs.Attribute.{IsBytes}
 use Rattle.send_model.specs.Words.{new_guards}
 use Rattle.store_model.specs.Requests.{word_at}
 use Rattle.store_model.specs.Answers.{Answer, OfAnyWord}
-use Rattle.turn_model.specs.TurnDues.{in_turns, shared}
-use Rattle.turn_model.specs.TurnAnswers.{TurnsAnswer}
-use Rattle.word_model.specs.AllRequests.{TurnFiles, turn_files}
+use Rattle.store_model.specs.TurnDues.{in_turns, shared}
+use Rattle.store_model.specs.TurnAnswers.{TurnsAnswer}
+use Rattle.program_model.specs.AllRequests.{TurnFiles, turn_files}
 use Rattle.guard_rules.specs.AnyKind.{any_kept}
 use Rattle.sx_base.specs.Calls.{Wrote}
 use Rattle.sx_base.specs.Crash.{LeavesOnly}
 use Rattle.sx_base.specs.Disk.{IsImage}
-use Rattle.store_words.specs.Ending as ending
+use Rattle.store_commands.specs.Ending as ending
 use Rattle.turn_sessions.proofs.Unpacked.{LeftByTurns}
 use Rattle.turn_sessions.proofs.Answering.{unmoved}
 use Rattle.sx_base.specs.Later.{AskedOnly}

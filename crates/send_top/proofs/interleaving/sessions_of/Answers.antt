@@ -6,8 +6,8 @@ use Rattle.send_model.specs.Guards.{Guard, GuardSpec, new_guard, guard_of, is_gu
 use Rattle.send_model.proofs.Sorts.{same_inside}
 use Rattle.guard_rules.specs.AnyKind.{any_kept}
 use Rattle.guard_rules.specs.Meaning.{spec_meant}
-use Rattle.word_model.specs.AllRequests.{TurnFiles}
-use Rattle.word_model.proofs.TurnWords.{Split, split_start, split_file, split_guard, split_end}
+use Rattle.program_model.specs.AllRequests.{TurnFiles}
+use Rattle.program_model.proofs.TurnWords.{Split, split_start, split_file, split_guard, split_end}
 use Rattle.send_top.specs.Requests.{turns_in}
 use Rattle.send_top.proofs.GuardPlaces.{word_here}
 use Rattle.send_top.proofs.TurnsRead.{are_in}

@@ -2,7 +2,7 @@ use Rattle.std.proofs.Common.{◌≡◌, map, drop, length}
 use Rattle.std.specs.String.{string_bytes}
 use Rattle.guard_rules.specs.AnyKind.{any_kept}
 use Rattle.send_top.specs.Requests.{turns_in}
-use Rattle.word_model.proofs.TurnWords.{Split}
+use Rattle.program_model.proofs.TurnWords.{Split}
 use Rattle.send_top.proofs.interleaving.sessions_of.Given as goal
 
 abbrev pub invariant-loop-place : goal.invariant-loop-place

@@ -3,6 +3,7 @@ use Rattle.std.specs.String.{string_bytes}
 use Rattle.std.proofs.Common.{sym, subst, ◌∙◌}
 use Rattle.store_model.specs.Requests.{store_of, reads_store}
 use Rattle.send_top.proofs.NothingRead.{no_streams_read}
+use Rattle.send_top.proofs.MadeEnds.{made_answer, made_reads_none}
 use Rattle.send_top.specs.Requests.{streams_meant}
 use Rattle.send_top.proofs.StreamsAnswers.{unread_store, nothing_read, outcome_done, outcome_refused, wrote_over, wrote_alone}
 use Rattle.send_top.specs.Run.{IsComposedFor, IsExportedFor, IsFrontFor}
@@ -70,6 +71,19 @@ returns-clause-answered g c =
 
 apart : true ≡ false → ⊥
 apart e = cc
+
+pub returns-then-reads_store-clause-made : goal.returns-then-reads_store-clause-made
+returns-then-reads_store-clause-made g c made =
+    let words : List (List ℕ) = map string_bytes c.args.asked.now.words.now in
+    absurd (apart (sym (sym c.reads_store.ensures ∙ c.if-reads_store.true) ∙ made_reads_none words (streams_meant words c.args.asked.now.request) made))
+
+pub returns-then-reads_store-clause-unread : goal.returns-then-reads_store-clause-unread
+returns-then-reads_store-clause-unread g c made =
+    let words : List (List ℕ) = map string_bytes c.args.asked.now.words.now in
+    absurd (apart (sym (sym c.reads_store.ensures ∙ c.if-reads_store.true) ∙ made_reads_none words (streams_meant words c.args.asked.now.request) made))
+
+pub returns-clause-made : goal.returns-clause-made
+returns-clause-made g c made = made_answer c.streams_end.result (c.streams_end.ensures.made made)
 
 pub returns-clause-allowed : goal.returns-clause-allowed
 returns-clause-allowed g c reads = absurd (apart (sym reads ∙ sym c.reads_store.ensures ∙ c.if-reads_store.false))

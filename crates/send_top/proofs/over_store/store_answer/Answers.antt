@@ -7,18 +7,18 @@ use Rattle.send_model.specs.Attribute.{IsBytes}
 use Rattle.send_model.specs.Words.{new_guards}
 use Rattle.store_model.specs.NamedFiles.{unnamed}
 use Rattle.store_model.specs.Requests.{DropEntry, word_at, at_entry}
-use Rattle.word_model.specs.NameWords.{files_in}
+use Rattle.program_model.specs.FileWords.{files_in}
 use Rattle.store_model.specs.Answers.{Answer, Answers}
-use Rattle.word_model.specs.AllRequests.{TurnFiles, name_at}
-use Rattle.sent_model.specs.Sent.{sent_stream}
-use Rattle.sent_model.specs.Restored.{restored_stream}
-use Rattle.store_words.specs.Ending as ending
+use Rattle.program_model.specs.AllRequests.{TurnFiles, name_at}
+use Rattle.snapshot_model.specs.Sent.{sent_stream}
+use Rattle.snapshot_model.specs.Restored.{restored_stream}
+use Rattle.store_commands.specs.Ending as ending
 use Rattle.turn_sessions.proofs.Unpacked.{LeftByTurns}
-use Rattle.store_words.specs.Receiving.{LeftByReceive}
+use Rattle.store_commands.specs.Receiving.{LeftByReceive}
 use Rattle.sx_base.specs.Calls.{IfAllTold, Wrote}
 use Rattle.sx_base.specs.Disk.{IsImage}
 use Rattle.send_top.proofs.NothingRead.{nothing_asked}
-use Rattle.send_top.specs.Requests.{before_store, entry_name, entry_path, guards_in, places_in, turns_in, with_names, store_meant}
+use Rattle.send_top.specs.Requests.{before_store, entry_name, entry_path, guards_in, places_in, turns_in, with_overrides, store_meant}
 use Rattle.send_top.proofs.SentAnew.{answered_of_name, in_part_of_name}
 use Rattle.send_top.proofs.NothingDone.{nothing_answered, nothing_in_part}
 use Rattle.send_top.proofs.ReceiveAnswers.{of_same, of_same_turns}
@@ -98,7 +98,7 @@ returns-in-Receive-clause-acknowledged g c =
     let seen : List ℕ = g.D.Disk.seen c.args.disk.now in
     rw c.in-Receive.is (λ tells specs store at same.
     of_same words (λ gs left. IfAllTold told (files_in left) (λ files. Wrote old new (λ written. AllByRecursion IsBytes files
-    → (image : List ℕ) → IsImage late image → LeftByReceive early seen (new_guards gs) (with_names left files) written image)))
+    → (image : List ℕ) → IsImage late image → LeftByReceive early seen (new_guards gs) (with_overrides left files) written image)))
     (guards_in (before_store words c.in-Receive.store)) specs c.in-Receive.store c.in-Receive.files store at same (c.receive_answer.ensures.acknowledged tells))
 
 -- Words that read files, and words that print.

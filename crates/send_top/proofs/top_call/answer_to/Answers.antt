@@ -4,14 +4,15 @@ use Rattle.std.proofs.Common.{refl, sym, ap, subst, ◌∙◌}
 use Rattle.send_model.specs.Guards.{Guard}
 use Rattle.send_model.specs.Words.{new_guards}
 use Rattle.store_model.specs.Requests.{OfStreams, ReceiveFiles, at_entry}
-use Rattle.word_model.specs.AllRequests.{Request, OfStore}
-use Rattle.word_model.specs.AllAnswers.{Answers}
+use Rattle.program_model.specs.AllRequests.{Request, OfStore}
+use Rattle.program_model.specs.AllAnswers.{Answers}
 use Rattle.sx_base.specs.Calls.{Wrote}
 use Rattle.sx_base.specs.Later.{AskedOnly}
 use Rattle.send_top.specs.FilesRead.{FilesRead}
 use Rattle.send_top.specs.Answered.{answer_of}
 use Rattle.send_top.specs.Requests.{request_meant, specs_of, streams_meant, store_meant, names_asked, named_files, uses_store}
-use Rattle.send_top.specs.Run.{IfAllRead, IfBytes, MayGet, OfDisk}
+use Rattle.send_top.specs.Run.{IfAllRead, IfBytes, IsMade, MayGet, OfDisk}
+use Rattle.send_top.proofs.MadeEnds.{not_streams, reads_none, reads_none_made}
 use Rattle.send_top.proofs.AskedFor.{of_asked, is_asked, uses_over}
 use Rattle.send_top.proofs.top_call.answer_to.Goals as goal
 
@@ -53,7 +54,25 @@ returns-in-Streams-clause-unread g c none =
     let mine : Request = OfStore (OfStreams (streams_meant words c.in-Streams.request)) in
     let fits : guards ≡ new_guards (specs_of mine) = subst (λ r. guards ≡ new_guards (specs_of (request_meant words r))) c.in-Streams.is (c.guards_fit.ensures.0 c.if-not-guards_fit.false) in
     let asked = is_asked words guards mine (ap (λ r. Some (request_meant words r)) (sym c.in-Streams.is) ∙ c.in-Some.ensures.meaning) fits in
-    absurd (none mine asked tt)
+    c.streams_answer.ensures.unread (reads_none_made words (streams_meant words c.in-Streams.request) (none mine asked))
+
+pub returns-in-Streams-clause-made : goal.returns-in-Streams-clause-made
+returns-in-Streams-clause-made g c of asks made =
+    let words : List (List ℕ) = map string_bytes c.args.words.now in
+    let guards : List Guard = map (λ b. (goal.Guard-dyn g (b.vtable, b.value)).kept b.value) c.args.guards.now in
+    let mine : Request = OfStore (OfStreams (streams_meant words c.in-Streams.request)) in
+    let is : mine ≡ OfStore (OfStreams of) = of_asked (λ r. mine ≡ r) words guards mine (OfStore (OfStreams of))
+    (ap (λ r. Some (request_meant words r)) (sym c.in-Streams.is) ∙ c.in-Some.ensures.meaning) refl asks in
+    let same : streams_meant words c.in-Streams.request ≡ of = cc in
+    c.streams_answer.ensures.made (subst IsMade (sym same) made)
+
+pub returns-in-Store-clause-made : goal.returns-in-Store-clause-made
+returns-in-Store-clause-made g c of asks made =
+    let words : List (List ℕ) = map string_bytes c.args.words.now in
+    let guards : List Guard = map (λ b. (goal.Guard-dyn g (b.vtable, b.value)).kept b.value) c.args.guards.now in
+    let mine : Request = store_meant words c.in-Store.request in
+    absurd (not_streams words c.in-Store.request of (of_asked (λ r. mine ≡ r) words guards mine (OfStore (OfStreams of))
+    (ap (λ r. Some (request_meant words r)) (sym c.in-Store.is) ∙ c.in-Some.ensures.meaning) refl asks))
 
 pub returns-in-Streams-clause-silent : goal.returns-in-Streams-clause-silent
 returns-in-Streams-clause-silent g c none =
@@ -79,7 +98,7 @@ returns-in-Store-clause-unread g c none =
     let mine : Request = store_meant words c.in-Store.request in
     let fits : guards ≡ new_guards (specs_of mine) = subst (λ r. guards ≡ new_guards (specs_of (request_meant words r))) c.in-Store.is (c.guards_fit.ensures.0 c.if-not-guards_fit.false) in
     let asked = is_asked words guards mine (ap (λ r. Some (request_meant words r)) (sym c.in-Store.is) ∙ c.in-Some.ensures.meaning) fits in
-    c.store_answer.ensures.unread (λ does. none mine asked does)
+    c.store_answer.ensures.unread (reads_none words c.in-Store.request (none mine asked))
 
 pub returns-in-Store-clause-silent : goal.returns-in-Store-clause-silent
 returns-in-Store-clause-silent g c none =

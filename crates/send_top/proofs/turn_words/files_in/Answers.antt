@@ -5,8 +5,8 @@ use Rattle.std.proofs.Common.{sym, ap, subst, ◌∙◌, arith}
 use Rattle.std.proofs.lemmas.List.{drop_all, length-map}
 use Rattle.send_model.specs.Guards.{guard_of, is_guard_word}
 use Rattle.guard_rules.specs.Meaning.{spec_meant}
-use Rattle.word_model.specs.AllRequests.{TurnFiles, turn_files}
-use Rattle.word_model.proofs.TurnGuards.{Counted, counted_none, counted_file, counted_guard, unsaid, no_file_behind}
+use Rattle.program_model.specs.AllRequests.{TurnFiles, turn_files}
+use Rattle.program_model.proofs.TurnGuards.{Counted, counted_none, counted_file, counted_guard, unsaid, no_file_behind}
 use Rattle.send_top.proofs.GuardPlaces.{word_here}
 use Rattle.send_top.proofs.turn_words.files_in.Goals as goal
 

@@ -1,6 +1,6 @@
 use Rattle.std.proofs.Common.{map, length, ◌+◌, ◌≤◌}
 use Rattle.std.specs.String.{string_bytes}
-use Rattle.word_model.proofs.TurnGuards.{Counted}
+use Rattle.program_model.proofs.TurnGuards.{Counted}
 use Rattle.send_top.proofs.turn_words.files_in.Given as goal
 
 abbrev pub invariant-loop-place : goal.invariant-loop-place

@@ -1,6 +1,6 @@
 use Rattle.std.specs.Prelude.{not}
 use Rattle.std.proofs.Common.{sym, ap, ◌∙◌}
-use Rattle.word_model.proofs.TurnGuards.{digit_not, digit_more, digits_all}
+use Rattle.program_model.proofs.TurnGuards.{digit_not, digit_more, digits_all}
 use Rattle.send_top.proofs.turn_words.is_schedule.Goals as goal
 
 pub returns-then-not-is_turn : goal.returns-then-not-is_turn

@@ -4,7 +4,7 @@ use Rattle.std.specs.String.{string_bytes}
 use Rattle.std.proofs.Common.{sym, ap, ◌∙◌, arith}
 use Rattle.std.proofs.lemmas.List.{length-map, drop-map, get_or-map, take_rest}
 use Rattle.store_model.specs.Turns.{schedule_of}
-use Rattle.word_model.specs.AllRequests.{TurnFiles, turn_files}
+use Rattle.program_model.specs.AllRequests.{TurnFiles, turn_files}
 use Rattle.send_top.proofs.TurnsRead.{short_turns, turns_read}
 use Rattle.send_top.proofs.turn_words.read_interleave.Goals as goal
 

@@ -1,7 +1,7 @@
 use Rattle.std.specs.Prelude.{length, map}
 use Rattle.std.specs.String.{string_bytes}
 use Rattle.std.proofs.Common.{ap, ◌∙◌}
-use Rattle.word_model.specs.NameWords.{names_stand}
+use Rattle.program_model.specs.FileWords.{names_stand}
 use Rattle.send_top.proofs.words.names_stand.Goals as goal
 
 pub stand_from-requires : goal.stand_from-requires

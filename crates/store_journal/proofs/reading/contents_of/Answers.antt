@@ -2,7 +2,7 @@ use Rattle.std.specs.Prelude.{Option, None, Some}
 use Rattle.std.proofs.Common.{sym, ap, ◌∙◌}
 use Rattle.send_model.specs.Store.{Store, find}
 use Rattle.subvol_catalog.specs.Entries.{key_of}
-use Rattle.store_groups.specs.declared.place.Place.{Place}
+use Rattle.group_replay.specs.declared.place.Place.{Place}
 use Rattle.store_journal.proofs.ReadFiles.{some_there, inode_cells}
 use Rattle.store_journal.proofs.reading.contents_of.Goals as goal
 

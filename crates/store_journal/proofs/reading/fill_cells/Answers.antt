@@ -4,7 +4,7 @@ use Rattle.sx_base.proofs.DiskMoments.{begins, joins, weakens}
 use Rattle.extent_map.specs.Cells.{cells_between}
 use Rattle.extent_map.proofs.CellLists.{length-between}
 use Rattle.extent_map.proofs.PieceByPiece.{next_within, left_after, filled_more, filled_all, mid_length}
-use Rattle.store_groups.specs.Placing.{further}
+use Rattle.group_replay.specs.Placing.{further}
 use Rattle.store_journal.specs.Standing.{place_byte}
 use Rattle.store_journal.proofs.ReadFiles.{piece_before, same_filled}
 use Rattle.store_journal.proofs.reading.fill_cells.Given.{Over}

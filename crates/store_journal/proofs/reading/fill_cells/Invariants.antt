@@ -1,4 +1,5 @@
--- The front of the buffer has the bytes of the cells before those that are left, and the disk is as it was.
+-- The front of the buffer has the bytes of the cells before those that are left, and the disk is as
+-- it was.
 use Rattle.std.proofs.Common.{◌≡◌, ℕ, ◌<◌, ◌≤◌, get_or, length, drop}
 use Rattle.sx_base.specs.Disk.{IsAsBefore, IsImage}
 use Rattle.sx_base.specs.Crash.{LeavesOnly}

@@ -1,6 +1,6 @@
 use Rattle.std.specs.Prelude.{◌+◌, ◌≤◌, Option, IfSome}
 use Rattle.std.proofs.Common.{length, subst, arith}
-use Rattle.store_groups.specs.declared.place.Place.{Place}
+use Rattle.group_replay.specs.declared.place.Place.{Place}
 use Rattle.store_journal.proofs.ReadFiles.{hole_filled, piece_filled}
 use Rattle.store_journal.proofs.reading.fill_piece.Goals as goal
 

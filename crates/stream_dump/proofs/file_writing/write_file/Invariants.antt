@@ -6,8 +6,8 @@ use Rattle.cmd_reader.specs.Left.{HasAhead, read_to}
 use Rattle.stream_dump.proofs.Standing.{Stands}
 use Rattle.stream_dump.proofs.file_writing.write_file.Given as goal
 
--- What was written and gathered are the bytes of what was read; the inputs tell the same files, no count rose,
--- and they were asked for nothing but this file, once as far as it was read.
+-- What was written and gathered are the bytes of what was read; the inputs tell the same files, no
+-- count rose, and they were asked for nothing but this file, once as far as it was read.
 abbrev pub invariant-loop-frame : goal.invariant-loop-frame
 invariant-loop-frame g l = record {
   same : g.I.Inputs.told l.inputs ≡ g.I.Inputs.told l.fn.inputs;

@@ -9,12 +9,12 @@ use Rattle.stream_export.proofs.exporting.export.Goals as goal
 
 pub returns-in-Ok-clause-exported : goal.returns-in-Ok-clause-exported
 returns-in-Ok-clause-exported g c =
-    export_done _ c.args.given.now.names.now (map string_bytes c.args.given.now.files.now) c.args.core c.new-exporter.result c.new-gathered.result c.export_files.new.gathered.bytes _ _ _ _ _ c.finish.result
+    export_done _ c.args.given.now.overrides.now (map string_bytes c.args.given.now.files.now) c.args.core c.new-exporter.result c.new-gathered.result c.export_files.new.gathered.bytes _ _ _ _ _ c.finish.result
     c.new-exporter.ensures.start c.new-gathered.ensures.empty c.in-Ok.ensures.exported c.finish.ensures.ends
 
 pub returns-in-Ok-clause-small : goal.returns-in-Ok-clause-small
 returns-in-Ok-clause-small g c =
-    done_small _ c.args.given.now.names.now (map string_bytes c.args.given.now.files.now) c.args.core c.new-exporter.result c.new-gathered.result c.export_files.new.gathered.bytes _ _ c.finish.result
+    done_small _ c.args.given.now.overrides.now (map string_bytes c.args.given.now.files.now) c.args.core c.new-exporter.result c.new-gathered.result c.export_files.new.gathered.bytes _ _ c.finish.result
     c.new-exporter.ensures.start c.new-gathered.ensures.empty c.in-Ok.ensures.exported
 
 pub returns-in-Ok-clause-cause : goal.returns-in-Ok-clause-cause
@@ -23,12 +23,12 @@ returns-in-Ok-clause-cause g c =
 
 pub returns-clause-exported : goal.returns-clause-exported
 returns-clause-exported g c =
-    export_stops _ c.args.given.now.names.now (map string_bytes c.args.given.now.files.now) c.args.core c.new-exporter.result c.new-gathered.result c.export_files.new.gathered.bytes _ _ _ _ _ c.in-Err.outcome c.finish-in-Err.result
+    export_stops _ c.args.given.now.overrides.now (map string_bytes c.args.given.now.files.now) c.args.core c.new-exporter.result c.new-gathered.result c.export_files.new.gathered.bytes _ _ _ _ _ c.in-Err.outcome c.finish-in-Err.result
     c.new-exporter.ensures.start c.new-gathered.ensures.empty c.in-Err.ensures.exported c.finish-in-Err.ensures.ends
 
 pub returns-clause-small : goal.returns-clause-small
 returns-clause-small g c =
-    stops_small _ c.args.given.now.names.now (map string_bytes c.args.given.now.files.now) c.args.core c.new-exporter.result c.new-gathered.result c.export_files.new.gathered.bytes _ _ _ _ _ c.in-Err.outcome c.finish-in-Err.result
+    stops_small _ c.args.given.now.overrides.now (map string_bytes c.args.given.now.files.now) c.args.core c.new-exporter.result c.new-gathered.result c.export_files.new.gathered.bytes _ _ _ _ _ c.in-Err.outcome c.finish-in-Err.result
     c.new-exporter.ensures.start c.new-gathered.ensures.empty c.in-Err.ensures.exported c.finish-in-Err.ensures.ends
 
 pub returns-clause-cause : goal.returns-clause-cause

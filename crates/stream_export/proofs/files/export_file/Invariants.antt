@@ -1,5 +1,4 @@
 use Rattle.std.proofs.Common.{◌≡◌, ◌-◌}
-use Rattle.std.specs.Option.{option_copied}
 use Rattle.send_model.specs.Lengths.{limit}
 use Rattle.sx_base.specs.Later.{ReadsOn}
 use Rattle.cmd_reader.specs.Places.{IfTold}
@@ -8,8 +7,9 @@ use Rattle.stream_export.specs.Steps.{point_at}
 use Rattle.stream_export.proofs.OneFile.{Stands}
 use Rattle.stream_export.proofs.files.export_file.Given as goal
 
--- The commands that were read were taken, and their bytes are gathered or written; the inputs tell the same files, no count rose,
--- and they were asked for nothing but this file, once as far as it was read.
+-- The commands that were read were taken, and their bytes are gathered or written; the inputs tell
+-- the same files, no count rose, and they were asked for nothing but this file, once as far as it
+-- was read.
 abbrev pub invariant-loop-frame : goal.invariant-loop-frame
 invariant-loop-frame g l = record {
   same : g.I.Inputs.told l.inputs ≡ g.I.Inputs.told l.fn.inputs;
@@ -19,7 +19,7 @@ invariant-loop-frame g l = record {
   out_steady : g.O.Sink.faults l.out ≡ g.O.Sink.faults l.fn.out;
   file : l.reader.file ≡ l.fn.file.number;
   name : l.reader.name ≡ l.fn.file.name.now;
-  stands : IfTold (g.I.Inputs.told l.fn.inputs) l.fn.file.name.now (Stands (option_copied l.fn.file.new_name) l.fn.file.number (point_at l.fn.exporter l.fn.gathered) (point_at l.exporter l.gathered)
+  stands : IfTold (g.I.Inputs.told l.fn.inputs) l.fn.file.name.now (Stands (l.fn.file.said.now) l.fn.file.number (point_at l.fn.exporter l.fn.gathered) (point_at l.exporter l.gathered)
       l.fn.gathered.bytes l.gathered.bytes (g.O.Sink.taken l.fn.out) (g.O.Sink.taken l.out) l.reader);
   ahead : IfTold (g.I.Inputs.told l.inputs) l.reader.name (HasAhead l.reader);
 }

@@ -3,7 +3,8 @@ use Rattle.sx_base.specs.Bytes.{IsFront}
 use Rattle.send_model.specs.Printed.{escaped}
 use Rattle.sx_base.proofs.escaping.push_all_escaped.Given as goal
 
--- the blob, the run of bytes that stand for themselves, and the escaped form of what is left, are what is wanted
+-- the blob, the run of bytes that stand for themselves, and the escaped form of what is left, are
+-- what is wanted
 abbrev pub invariant-loop-at : goal.invariant-loop-at
 invariant-loop-at l = record {
   before : l.from ≤ l.at;

@@ -7,7 +7,8 @@ use Rattle.store_model.specs.StoreLines.{inode_lines}
 use Rattle.tree_view.proofs.Texts.{Printed}
 use Rattle.tree_view.proofs.showing.write_inodes.Given as goal
 
--- The lines of the inodes up to the last one are added; those of the inodes above it are left, and no count rose.
+-- The lines of the inodes up to the last one are added; those of the inodes above it are left, and
+-- no count rose.
 abbrev pub invariant-loop-ino : goal.invariant-loop-ino
 invariant-loop-ino g l = record {
   steady : g.O.Sink.faults l.out ≡ g.O.Sink.faults l.fn.out;

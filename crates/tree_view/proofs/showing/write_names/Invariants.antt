@@ -7,7 +7,8 @@ use Rattle.store_model.specs.StoreLines.{name_line}
 use Rattle.tree_view.proofs.Texts.{Printed}
 use Rattle.tree_view.proofs.showing.write_names.Given as goal
 
--- The lines of the names up to the last one are added; those of the names above it are left, and no count rose.
+-- The lines of the names up to the last one are added; those of the names above it are left, and no
+-- count rose.
 abbrev pub invariant-loop-next : goal.invariant-loop-next
 invariant-loop-next g l = record {
   steady : g.O.Sink.faults l.out ≡ g.O.Sink.faults l.fn.out;

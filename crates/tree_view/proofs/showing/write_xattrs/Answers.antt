@@ -4,7 +4,8 @@ use Rattle.store_model.specs.StoreLines.{xattr_line}
 use Rattle.tree_view.proofs.Texts.{handed_on, lines_next, printed_next, printed_stops}
 use Rattle.tree_view.proofs.showing.write_xattrs.Goals as goal
 
--- The line of an attribute in front of those of the others, its name and its value under other names.
+-- The line of an attribute in front of those of the others, its name and its value under other
+-- names.
 next_line : (ino : ℕ) (left rest : List (List ℕ × List ℕ)) (e : List ℕ × List ℕ) (name value : List ℕ) → left ≡ e ∷ rest → name ≡ e.0 → value ≡ e.1
     → flat_map (xattr_line ino) left ≡ xattr_line ino (name, value) ++ flat_map (xattr_line ino) rest
 next_line ino left rest e name value steps first second =

@@ -7,12 +7,12 @@ use Rattle.sx_base.proofs.DiskMoments.{begins, joins}
 use Rattle.send_model.specs.Command.{Command}
 use Rattle.send_model.specs.Spelling.{canonical, canonical_all}
 use Rattle.group_log.proofs.GatedGroups.{grows_has}
-use Rattle.store_groups.specs.Taking.{as_runs}
-use Rattle.store_groups.specs.Stopping.{IfLog}
+use Rattle.group_replay.specs.Taking.{as_runs}
+use Rattle.group_replay.specs.Stopping.{IfLog}
 use Rattle.store_journal.specs.Filling.{first_full, piece_asks, IsStopOf}
 use Rattle.store_journal.specs.Holding.{bodies_of}
 use Rattle.store_journal.proofs.Unpacked.{Builds}
-use Rattle.turn_model.proofs.Making.{edits_end}
+use Rattle.store_model.proofs.TurnMaking.{edits_end}
 use Rattle.turn_sessions.specs.Edits.{AreMade, IsFront, frame_asks}
 use Rattle.turn_sessions.proofs.FramesLeft.{all_rest, front_there, rest_next, next_wants, none_left, stop_rest, front_shown, front_fits, some_left}
 use Rattle.turn_sessions.proofs.frames.write_frames.Goals as goal

@@ -6,7 +6,7 @@ use Rattle.send_model.specs.Spelling.{canonical}
 use Rattle.send_model.proofs.Fuel.{ok_same}
 use Rattle.store_model.specs.Stored.{IsEdit}
 use Rattle.send_commands.specs.Meaning.{meaning_of}
-use Rattle.store_groups.specs.Stopping.{IfLog}
+use Rattle.group_replay.specs.Stopping.{IfLog}
 use Rattle.store_journal.specs.Filling.{first_full, piece_asks, IsStopOf}
 use Rattle.store_journal.proofs.Unpacked.{Builds}
 use Rattle.turn_sessions.specs.Fronts.{IsInFront}

@@ -5,7 +5,7 @@ use Rattle.std.proofs.lemmas.List.{length-map}
 use Rattle.send_model.specs.Store.{Store, IsStore}
 use Rattle.sx_base.specs.Calls.{IfAllTold, Wrote}
 use Rattle.sx_base.proofs.Asking.{asked_nothing, asked_so, turn_none}
-use Rattle.store_groups.specs.declared.place.Place.{Place}
+use Rattle.group_replay.specs.declared.place.Place.{Place}
 use Rattle.sx_base.specs.declared.outcome.Outcome.TheVariants as ended
 use Rattle.receiver.specs.declared.outcome.Received.{Received}
 use Rattle.receiver.specs.declared.outcome.Received.TheVariants as how

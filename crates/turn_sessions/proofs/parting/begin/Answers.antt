@@ -13,9 +13,9 @@ use Rattle.receiver.specs.declared.outcome.Received.{Received}
 use Rattle.receiver.specs.declared.outcome.Received.TheVariants as how
 use Rattle.receiver.specs.Answers.{ended_log}
 use Rattle.receiver.proofs.BegunParts.{head_first}
-use Rattle.store_groups.specs.declared.place.Place.{Place}
-use Rattle.store_groups.specs.declared.stops.StoreStop.{StoreStop}
-use Rattle.store_groups.specs.Stopping.{IfLog, IfRefused}
+use Rattle.group_replay.specs.declared.place.Place.{Place}
+use Rattle.group_replay.specs.declared.stops.StoreStop.{StoreStop}
+use Rattle.group_replay.specs.Stopping.{IfLog, IfRefused}
 use Rattle.store_journal.specs.Answers.{BeginsIn}
 use Rattle.store_journal.specs.Filling.{first_full, group_asks, IsStopOf}
 use Rattle.sx_base.specs.declared.refusal.Refusal as code

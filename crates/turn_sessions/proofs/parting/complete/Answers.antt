@@ -5,8 +5,8 @@ use Rattle.sx_base.proofs.DiskMoments.{joins, weakens}
 use Rattle.send_model.specs.Spelling.{canonical_all}
 use Rattle.send_model.specs.Store.{State}
 use Rattle.store_model.specs.Stored.{Body}
-use Rattle.turn_model.proofs.Making.{resumed_uuid}
-use Rattle.store_groups.specs.declared.place.Place.{Place}
+use Rattle.store_model.proofs.TurnMaking.{resumed_uuid}
+use Rattle.group_replay.specs.declared.place.Place.{Place}
 use Rattle.store_journal.specs.Holding.{new_group, HasThese, HasOneMore, Holds}
 use Rattle.turn_sessions.specs.Edits.{frames_end}
 use Rattle.turn_sessions.proofs.Completing.{body_there, body_next, completed_open, frames_length, if_full}

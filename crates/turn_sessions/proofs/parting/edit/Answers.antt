@@ -10,9 +10,9 @@ use Rattle.send_commands.specs.Meaning.{meaning_of}
 use Rattle.send_commands.proofs.Writable.{spellable_is_writable}
 use Rattle.clone_resolve.specs.Steps.{cells_put}
 use Rattle.cmd_reader.specs.Next.{item_of}
-use Rattle.store_groups.specs.declared.place.Place.{Place}
-use Rattle.store_groups.specs.Placing.{further}
-use Rattle.store_groups.proofs.Editing.{short_data}
+use Rattle.group_replay.specs.declared.place.Place.{Place}
+use Rattle.group_replay.specs.Placing.{further}
+use Rattle.group_replay.proofs.Editing.{short_data}
 use Rattle.turn_sessions.proofs.Editing.{none_edited, one_edited, one_refused, version_of}
 use Rattle.turn_sessions.proofs.parting.edit.Goals as goal
 

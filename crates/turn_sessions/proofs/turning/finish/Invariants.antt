@@ -4,7 +4,7 @@ use Rattle.sx_base.specs.Asks.{AreReadInTurn}
 use Rattle.sx_base.specs.Calls.{IfAllTold}
 use Rattle.sx_base.specs.Later.{AskedOnly}
 use Rattle.store_model.specs.Turns.{Turns}
-use Rattle.turn_model.specs.TurnDues.{TurnsEnd}
+use Rattle.store_model.specs.TurnDues.{TurnsEnd}
 use Rattle.auditor.specs.Following.{blank}
 use Rattle.store_journal.specs.Shown.{StoreState, IsIdle}
 use Rattle.turn_sessions.specs.Standing.{Blank}

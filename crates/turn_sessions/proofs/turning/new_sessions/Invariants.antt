@@ -1,4 +1,5 @@
--- The sessions so far stand in front of those that are still to be made, of the files and guards that are left.
+-- The sessions so far stand in front of those that are still to be made, of the files and guards
+-- that are left.
 use Rattle.std.specs.Prelude.{◌≡◌, ◌+◌, ◌++◌, List, length, map, drop}
 use Rattle.std.specs.String.{string_bytes}
 use Rattle.turn_sessions.specs.declared.session.Session.{Session}

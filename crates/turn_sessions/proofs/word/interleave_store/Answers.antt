@@ -5,10 +5,10 @@ use Rattle.sx_base.specs.Calls.{IfAllTold, Wrote}
 use Rattle.sx_base.proofs.Asking.{asked_nothing, turn_none}
 use Rattle.sx_base.proofs.DiskMoments.{leaves_now}
 use Rattle.store_journal.specs.Standing.{with_bytes}
-use Rattle.store_words.specs.Ending.{receive_ways, EndCaused}
-use Rattle.store_words.proofs.AuditAnswers.{same_shape}
-use Rattle.store_words.proofs.Opened.{opening_stops}
-use Rattle.store_words.proofs.ReceiveAnswers.{receive_caused}
+use Rattle.store_commands.specs.Ending.{receive_ways, EndCaused}
+use Rattle.store_commands.proofs.AuditAnswers.{same_shape}
+use Rattle.store_commands.proofs.Opened.{opening_stops}
+use Rattle.store_commands.proofs.ReceiveAnswers.{receive_caused}
 use Rattle.turn_sessions.specs.Asked.{unread}
 use Rattle.turn_sessions.specs.Ends.{places_of}
 use Rattle.turn_sessions.proofs.Answering.{TurnsSaid, TurnsLeave, MomentsLeave, not_turned, none_left, none_moments, is_turned, is_left, its_moments}

@@ -1,7 +1,7 @@
 use Rattle.std.specs.Prelude.{◌≡◌, length}
 use Rattle.send_model.specs.Map.{bytes_cmp}
 use Rattle.shared_map.specs.Sought.{entries_above}
-use Rattle.sent_model.specs.Listing.{paths_of}
+use Rattle.snapshot_model.specs.Listing.{paths_of}
 use Rattle.inode_commands.specs.Spelled.{spelled_all}
 use Rattle.full_send.proofs.LastCapabilities.{comes}
 use Rattle.full_send.proofs.Parts.{PartAdded}

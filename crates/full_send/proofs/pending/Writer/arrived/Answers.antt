@@ -2,9 +2,9 @@ use Rattle.std.specs.Prelude.{◌≡◌, ◌<◌, ◌^◌, ℕ, true, false, Lis
 use Rattle.std.proofs.Common.{rules, sym, ap, subst, ◌∙◌}
 use Rattle.send_model.specs.Command.{Rename}
 use Rattle.send_model.specs.Subvolume.{named}
-use Rattle.sent_model.specs.Sent.{making}
-use Rattle.sent_model.specs.Restored.{has_temporary}
-use Rattle.sent_model.proofs.TemporaryNames.{temporary_fits}
+use Rattle.snapshot_model.specs.Sent.{making}
+use Rattle.snapshot_model.specs.Restored.{has_temporary}
+use Rattle.snapshot_model.proofs.TemporaryNames.{temporary_fits}
 use Rattle.inode_commands.specs.Spelled.{IsShortPath}
 use Rattle.full_send.specs.Adding.{Adds}
 use Rattle.full_send.proofs.Added.{none_added, handed_on, stops_early, then_adds}

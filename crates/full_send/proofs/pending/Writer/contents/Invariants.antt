@@ -1,7 +1,7 @@
 use Rattle.std.specs.Prelude.{◌≡◌, take, map}
 use Rattle.sx_base.specs.Crash.{LeavesOnly}
 use Rattle.sx_base.specs.Disk.{IsAsBefore, IsImage}
-use Rattle.sent_model.specs.Sent.{contents_commands, ends_in_hole}
+use Rattle.snapshot_model.specs.Sent.{contents_commands, ends_in_hole}
 use Rattle.inode_commands.specs.Spelled.{spelled_all}
 use Rattle.full_send.specs.Held.{held_cell}
 use Rattle.full_send.proofs.Along.{Along, left_commands}

@@ -1,10 +1,10 @@
 use Rattle.std.specs.Prelude.{◌≡◌, ◌++◌, ℕ, List, map, Option, Ok, Err}
 use Rattle.std.proofs.Common.{sym, ap, subst, ◌∙◌}
 use Rattle.send_model.specs.Command.{Command, SetXattr}
-use Rattle.sent_model.specs.Sent.{contents_commands, setting_commands}
+use Rattle.snapshot_model.specs.Sent.{contents_commands, setting_commands}
 use Rattle.inode_commands.specs.Spelled.{spelled_all}
 use Rattle.inode_commands.proofs.Joined.{all_joined}
-use Rattle.store_groups.specs.declared.place.Place.{Place}
+use Rattle.group_replay.specs.declared.place.Place.{Place}
 use Rattle.full_send.specs.Adding.{Adds}
 use Rattle.full_send.specs.Held.{held_cell}
 use Rattle.full_send.proofs.Added.{handed_on, stops_early, then_adds}

@@ -1,11 +1,11 @@
 use Rattle.std.specs.Prelude.{ℕ, List, map, Option, Ok, Err}
 use Rattle.std.proofs.Common.{sym, subst}
 use Rattle.send_model.specs.Command.{Command}
-use Rattle.sent_model.specs.Sent.{contents_commands}
-use Rattle.sent_model.specs.Restored.{finishing}
+use Rattle.snapshot_model.specs.Sent.{contents_commands}
+use Rattle.snapshot_model.specs.Restored.{finishing}
 use Rattle.inode_commands.specs.Spelled.{spelled_all}
 use Rattle.inode_commands.proofs.Joined.{all_joined}
-use Rattle.store_groups.specs.declared.place.Place.{Place}
+use Rattle.group_replay.specs.declared.place.Place.{Place}
 use Rattle.full_send.specs.Adding.{Adds}
 use Rattle.full_send.specs.Held.{held_cell}
 use Rattle.full_send.proofs.Added.{handed_on, stops_early, then_adds}

@@ -1,9 +1,9 @@
 use Rattle.std.specs.Prelude.{ℕ, List, Option}
 use Rattle.std.proofs.Common.{sym, ap, subst, ◌∙◌}
 use Rattle.send_model.specs.Subvolume.{Inode}
-use Rattle.sent_model.specs.Restored.{finishing}
+use Rattle.snapshot_model.specs.Restored.{finishing}
 use Rattle.inode_commands.specs.Spelled.{IsShortPath, spelled_all}
-use Rattle.store_groups.specs.declared.place.Place.{Place}
+use Rattle.group_replay.specs.declared.place.Place.{Place}
 use Rattle.full_send.specs.Adding.{Adds}
 use Rattle.full_send.proofs.HeldInodes.{short_path, inode_there, inode_said}
 use Rattle.full_send.proofs.RestoredPaths.{listed_is}

@@ -1,7 +1,7 @@
 use Rattle.std.specs.Prelude.{ℕ, List, Ok}
 use Rattle.std.proofs.Common.{sym, ap, subst, ◌∙◌}
-use Rattle.sent_model.specs.Listing.{listed}
-use Rattle.sent_model.specs.Restored.{capability_commands}
+use Rattle.snapshot_model.specs.Listing.{listed}
+use Rattle.snapshot_model.specs.Restored.{capability_commands}
 use Rattle.inode_commands.specs.Spelled.{spelled_all}
 use Rattle.full_send.specs.Adding.{Adds}
 use Rattle.full_send.proofs.Added.{none_added}

@@ -1,7 +1,7 @@
 use Rattle.std.specs.Prelude.{◌++◌, ◌∷◌, [], ℕ, List, Ok, Err}
 use Rattle.std.proofs.Common.{rules, refl, sym, ap, subst, ◌∙◌}
 use Rattle.send_model.specs.Map.{Map}
-use Rattle.sent_model.specs.Restored.{placed}
+use Rattle.snapshot_model.specs.Restored.{placed}
 use Rattle.inode_commands.specs.Spelled.{spelled_all}
 use Rattle.path_walk.proofs.Passes.{root_walks}
 use Rattle.full_send.specs.Adding.{Adds}

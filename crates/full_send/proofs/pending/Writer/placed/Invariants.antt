@@ -3,7 +3,7 @@ use Rattle.send_model.specs.Map.{bytes_cmp}
 use Rattle.shared_map.specs.Sought.{entries_above}
 use Rattle.sx_base.specs.Crash.{LeavesOnly}
 use Rattle.sx_base.specs.Disk.{IsAsBefore, IsImage}
-use Rattle.sent_model.specs.Listing.{paths_of}
+use Rattle.snapshot_model.specs.Listing.{paths_of}
 use Rattle.inode_commands.specs.Spelled.{spelled_all}
 use Rattle.full_send.specs.Directories.{paths_passed, directories_in}
 use Rattle.full_send.proofs.Parts.{PartAdded}

@@ -2,7 +2,7 @@ use Rattle.std.specs.Prelude.{◌≡◌, ◌++◌, [], ℕ, Bool, true, false, L
 use Rattle.std.proofs.Common.{refl, sym, ap, subst, ◌∙◌, append-nil}
 use Rattle.send_model.specs.Map.{Map}
 use Rattle.send_model.specs.Subvolume.{is_directory_kind}
-use Rattle.sent_model.specs.Restored.{arriving, has_temporary}
+use Rattle.snapshot_model.specs.Restored.{arriving, has_temporary}
 use Rattle.inode_commands.specs.Spelled.{spelled_all}
 use Rattle.subvol_catalog.specs.Entries.{key_of}
 use Rattle.full_send.specs.Adding.{Adds}

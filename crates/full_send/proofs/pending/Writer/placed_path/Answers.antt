@@ -2,8 +2,8 @@ use Rattle.std.specs.Prelude.{◌≡◌, ◌++◌, ◌∷◌, [], ℕ, List, OnO
 use Rattle.std.proofs.Common.{refl, sym, ap, subst, ◌∙◌, append-nil}
 use Rattle.send_model.specs.Command.{Link}
 use Rattle.send_model.specs.Map.{Map}
-use Rattle.sent_model.specs.Listing.{listed}
-use Rattle.sent_model.specs.Restored.{placed_inode, has_temporary}
+use Rattle.snapshot_model.specs.Listing.{listed}
+use Rattle.snapshot_model.specs.Restored.{placed_inode, has_temporary}
 use Rattle.inode_commands.specs.Spelled.{IsShortPath, spelled_all}
 use Rattle.full_send.specs.Adding.{Adds}
 use Rattle.full_send.specs.Directories.{paths_passed, directories_in}

@@ -3,7 +3,7 @@ use Rattle.std.specs.List.{AllByRecursion}
 use Rattle.std.proofs.Common.{rules, refl, sym, ap, subst, ◌∙◌}
 use Rattle.send_model.specs.Map.{Map}
 use Rattle.send_model.specs.Subvolume.{walk}
-use Rattle.sent_model.specs.Listing.{paths_of}
+use Rattle.snapshot_model.specs.Listing.{paths_of}
 use Rattle.inode_commands.specs.Spelled.{spelled_all}
 use Rattle.full_send.specs.Directories.{paths_passed}
 use Rattle.full_send.proofs.Added.{handed_on}

@@ -3,17 +3,18 @@ use Rattle.std.specs.List.{AllByRecursion}
 use Rattle.send_model.specs.Subvolume.{walk}
 use Rattle.sx_base.specs.Crash.{LeavesOnly}
 use Rattle.sx_base.specs.Disk.{IsAsBefore, IsImage}
-use Rattle.sent_model.specs.Restored.{restored_edits}
+use Rattle.snapshot_model.specs.Restored.{restored_edits}
 use Rattle.inode_commands.specs.Spelled.{spelled_all}
 use Rattle.full_send.specs.Directories.{paths_passed}
 use Rattle.full_send.specs.Held.{with_holes}
-use Rattle.sent_model.specs.Listing.{paths_of}
+use Rattle.snapshot_model.specs.Listing.{paths_of}
 use Rattle.full_send.proofs.LastCapabilities.{comes}
 use Rattle.full_send.proofs.LastDirectories.{ends_back}
 use Rattle.full_send.proofs.Parts.{PartAdded}
 use Rattle.full_send.proofs.pending.Writer.restored.Given as goal
 
--- What all paths make was added, and the directories that are left are to be finished, then capabilities come; no count rose.
+-- What all paths make was added, and the directories that are left are to be finished, then
+-- capabilities come; no count rose.
 abbrev pub invariant-loop-directory : goal.invariant-loop-directory
 invariant-loop-directory g l =
     let D = g.D.Disk in

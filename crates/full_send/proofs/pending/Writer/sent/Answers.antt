@@ -1,9 +1,9 @@
 use Rattle.std.specs.Prelude.{ℕ, List, [], Ok, Err}
 use Rattle.std.proofs.Common.{rules, refl, sym, ap, subst, ◌∙◌, append-nil}
-use Rattle.sent_model.specs.Listing.{listed}
-use Rattle.sent_model.specs.Sent.{listed_commands}
+use Rattle.snapshot_model.specs.Listing.{listed}
+use Rattle.snapshot_model.specs.Sent.{listed_commands}
 use Rattle.inode_commands.specs.Spelled.{spelled_all}
-use Rattle.store_words.specs.declared.ends.StoreEnd.TheVariants as made
+use Rattle.store_commands.specs.declared.ends.StoreEnd.TheVariants as made
 use Rattle.sx_base.specs.declared.outcome.Outcome.TheVariants as ended
 use Rattle.path_walk.proofs.Passes.{root_walks}
 use Rattle.full_send.specs.Adding.{Adds, TextAdded}

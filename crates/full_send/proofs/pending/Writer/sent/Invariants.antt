@@ -3,8 +3,8 @@ use Rattle.send_model.specs.Map.{bytes_cmp}
 use Rattle.shared_map.specs.Sought.{entries_above}
 use Rattle.sx_base.specs.Crash.{LeavesOnly}
 use Rattle.sx_base.specs.Disk.{IsAsBefore, IsImage}
-use Rattle.sent_model.specs.Listing.{paths_of}
-use Rattle.sent_model.specs.Sent.{sent_edits}
+use Rattle.snapshot_model.specs.Listing.{paths_of}
+use Rattle.snapshot_model.specs.Sent.{sent_edits}
 use Rattle.inode_commands.specs.Spelled.{spelled_all}
 use Rattle.full_send.specs.Held.{with_holes}
 use Rattle.full_send.proofs.Parts.{PartAdded}

@@ -1,7 +1,7 @@
 use Rattle.std.specs.Prelude.{ℕ, List, Err}
 use Rattle.std.proofs.Common.{sym, subst, ◌∙◌}
 use Rattle.send_model.specs.Command.{Command}
-use Rattle.sent_model.specs.Sent.{making}
+use Rattle.snapshot_model.specs.Sent.{making}
 use Rattle.inode_commands.specs.Spelled.{spelled_all}
 use Rattle.subvol_catalog.specs.Entries.{key_of}
 use Rattle.full_send.specs.Adding.{Adds}

@@ -1,8 +1,8 @@
 use Rattle.std.specs.Prelude.{ℕ, List}
 use Rattle.std.proofs.Common.{sym, ap, subst, ◌∙◌, append-nil}
 use Rattle.send_model.specs.Command.{Link}
-use Rattle.sent_model.specs.Listing.{listed}
-use Rattle.sent_model.specs.Sent.{inode_commands}
+use Rattle.snapshot_model.specs.Listing.{listed}
+use Rattle.snapshot_model.specs.Sent.{inode_commands}
 use Rattle.inode_commands.specs.Spelled.{IsShortPath, spelled_all}
 use Rattle.full_send.specs.Adding.{Adds}
 use Rattle.full_send.specs.Held.{with_holes}

@@ -7,7 +7,8 @@ use Rattle.group_log.proofs.journal.Log.open.Given.{Over}
 use Rattle.group_log.proofs.journal.Log.open.Goals.{After-size, After-fill, After-fill-2}
 use Rattle.group_log.proofs.journal.Log.open.Goals as goal
 
--- At each moment up to the size, and up to each of the two readings, a crash leaves what it could have left at first.
+-- At each moment up to the size, and up to each of the two readings, a crash leaves what it could
+-- have left at first.
 sized : (g : Over) (c : After-size g) → g.D.Disk.tells → LeavesOnly g.D.Disk.moment g.D.Disk.left_since c.args.disk.now c.size.new.self (IsImage (g.D.Disk.pending c.args.disk.now))
 sized g c tells =
     let before = g.D.Disk.pending c.args.disk.now in

@@ -22,7 +22,8 @@ returns-in_err-write_at-clause-any_moment g c tells header bodies body grows =
     let sized = goes_on start c.write_at.ensures.passes tells (λ image. stable_has header bodies log grew.gate _ image grew.behind grew.closed first) in
     sized
 
--- With the length and the sum written a crash leaves the groups that there were, at each moment so far and from now on.
+-- With the length and the sum written a crash leaves the groups that there were, at each moment so
+-- far and from now on.
 summed : (g : Over) (c : After-write_at-2 g) → g.D.Disk.tells → (header : Header) (bodies : List (List ℕ)) (body : List ℕ) (grew : Grows header bodies body (shown c.self.inside) (g.D.Disk.seen c.args.disk.now) (g.D.Disk.pending c.args.disk.now))
     → LeavesOnly g.D.Disk.moment g.D.Disk.left_since c.args.disk.now c.write_at-2.new.self (HasGroups header bodies) × IsStableFront (front_of header bodies ++ grew.gate ∷ []) (g.D.Disk.pending c.write_at-2.new.self)
 summed g c tells header bodies body grew =

@@ -11,7 +11,8 @@ use Rattle.group_log.proofs.journal.Log.publish.Given.{Over}
 use Rattle.group_log.proofs.journal.Log.publish.Goals.{After-write_at}
 use Rattle.group_log.proofs.journal.Log.publish.Goals as goal
 
--- With the gate written a crash leaves the groups that there were, or the new one too, at each moment so far.
+-- With the gate written a crash leaves the groups that there were, or the new one too, at each
+-- moment so far.
 opening : (g : Over) (c : After-write_at g) → g.D.Disk.tells → (header : Header) (bodies : List (List ℕ)) (body : List ℕ) → IsReady header bodies body (shown c.self.inside) (g.D.Disk.seen c.args.disk.now) (g.D.Disk.pending c.args.disk.now)
     → LeavesOnly g.D.Disk.moment g.D.Disk.left_since c.args.disk.now c.write_at.new.self (λ image. HasGroups header bodies image ⊎ HasGroups header (bodies ++ body ∷ []) image)
 opening g c tells header bodies body was =

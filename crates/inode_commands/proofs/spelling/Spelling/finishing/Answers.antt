@@ -1,7 +1,7 @@
 use Rattle.std.proofs.Common.{◌==◌, ◌++◌, ◌∷◌, ◌&&◌, [], map, ◌∙◌, List, ℕ, if◌then◌else◌}
 use Rattle.send_model.specs.Command.{Chown, Chmod, SetXattr, Utimes}
-use Rattle.sent_model.specs.Sent.{flags_commands}
-use Rattle.sent_model.specs.Restored.{is_link_kind, mode_commands, other_xattrs}
+use Rattle.snapshot_model.specs.Sent.{flags_commands}
+use Rattle.snapshot_model.specs.Restored.{is_link_kind, mode_commands, other_xattrs}
 use Rattle.inode_commands.specs.Spelled.{spelled_all}
 use Rattle.inode_commands.proofs.Joined.{five_all, if_done}
 use Rattle.inode_commands.proofs.spelling.Spelling.finishing.Goals as goal

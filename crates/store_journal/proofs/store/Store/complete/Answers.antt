@@ -2,14 +2,14 @@ use Rattle.std.proofs.Common.{◌≡◌, ℕ, [], ◌∷◌, ◌++◌, Option, N
 use Rattle.send_model.specs.Store.{Store}
 use Rattle.store_model.specs.Stored.{Body, Makes}
 use Rattle.sx_base.proofs.DiskMoments.{weakens}
-use Rattle.store_groups.specs.declared.place.Place.{Place}
+use Rattle.group_replay.specs.declared.place.Place.{Place}
 use Rattle.store_journal.specs.Shown.{StoreState}
 use Rattle.store_journal.specs.Holding.{bodies_of, new_group}
 use Rattle.store_journal.proofs.Unpacked.{Builds}
-use Rattle.store_groups.specs.Taking.{as_runs}
+use Rattle.group_replay.specs.Taking.{as_runs}
 use Rattle.store_journal.proofs.Keeping.{more_has, more_rests, edits_spelled, completes}
-use Rattle.store_groups.specs.Kept.{AreKept}
-use Rattle.store_groups.proofs.KeptParts.{kept_further, all_further, completed_kept}
+use Rattle.group_replay.specs.Kept.{AreKept}
+use Rattle.group_replay.proofs.KeptParts.{kept_further, all_further, completed_kept}
 use Rattle.store_journal.proofs.store.Store.complete.Goals as goal
 
 pub returns-in-Ok-clause-holds : goal.returns-in-Ok-clause-holds

@@ -8,7 +8,7 @@ use Rattle.group_log.proofs.GatedGroups.{rests_has}
 use Rattle.std.specs.Prelude.{Option}
 use Rattle.std.specs.Option.{option_map}
 use Rattle.subvol_catalog.specs.Entries.{key_of}
-use Rattle.store_groups.specs.declared.place.Place.{Place}
+use Rattle.group_replay.specs.declared.place.Place.{Place}
 use Rattle.store_journal.specs.Shown.{StoreState}
 use Rattle.store_journal.specs.Filling.{first_full, group_asks}
 use Rattle.store_journal.specs.Holding.{bodies_of, new_group, HasThese, Holds}
@@ -16,8 +16,8 @@ use Rattle.store_journal.proofs.Pushes.{none_dropped}
 use Rattle.store_journal.proofs.Stopped.{whether_full}
 use Rattle.store_journal.proofs.Keeping.{more_has, more_rests, drop_makes}
 use Rattle.store_journal.proofs.store.Store.drop_name.Given.{Over}
-use Rattle.store_groups.specs.Kept.{AreKept}
-use Rattle.store_groups.proofs.KeptParts.{all_further, dropped_kept}
+use Rattle.group_replay.specs.Kept.{AreKept}
+use Rattle.group_replay.proofs.KeptParts.{all_further, dropped_kept}
 use Rattle.store_journal.proofs.store.Store.drop_name.Goals.{After-drop_name}
 use Rattle.store_journal.proofs.store.Store.drop_name.Goals as goal
 

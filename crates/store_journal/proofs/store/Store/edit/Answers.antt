@@ -10,13 +10,13 @@ use Rattle.extent_map.specs.Pieces.{run_cells}
 use Rattle.send_commands.specs.Meaning.{meaning_of}
 use Rattle.clone_resolve.specs.Steps.{data_len}
 use Rattle.group_log.proofs.GatedGroups.{grows_has}
-use Rattle.store_groups.specs.Placing.{further}
+use Rattle.group_replay.specs.Placing.{further}
 use Rattle.store_journal.specs.Shown.{StoreState}
 use Rattle.store_journal.specs.Holding.{bodies_of}
 use Rattle.store_journal.proofs.Unpacked.{Builds}
 use Rattle.store_journal.proofs.Keeping.{edit_builds}
-use Rattle.store_groups.proofs.KeptParts.{run_before, kept_further, all_further, edit_kept}
-use Rattle.store_groups.proofs.Editing.{data_in_frame, short_data, near_data, edit_same}
+use Rattle.group_replay.proofs.KeptParts.{run_before, kept_further, all_further, edit_kept}
+use Rattle.group_replay.proofs.Editing.{data_in_frame, short_data, near_data, edit_same}
 use Rattle.store_journal.proofs.Refusing.{stopped_edits}
 use Rattle.store_journal.proofs.store.Store.edit.Goals as goal
 

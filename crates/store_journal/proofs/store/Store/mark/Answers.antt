@@ -11,7 +11,7 @@ use Rattle.store_journal.specs.Shown.{StoreState}
 use Rattle.store_journal.specs.Filling.{first_full, group_asks}
 use Rattle.store_journal.specs.Holding.{bodies_of, new_group, HasThese, Holds}
 use Rattle.store_journal.proofs.Keeping.{more_has, mark_holds, begun_again, begun_are_kept}
-use Rattle.store_groups.proofs.KeptParts.{all_further, kept_further}
+use Rattle.group_replay.proofs.KeptParts.{all_further, kept_further}
 use Rattle.store_journal.proofs.Stopped.{whether_full}
 use Rattle.store_journal.proofs.Refusing.{stopped_begins, anyway}
 use Rattle.store_journal.proofs.store.Store.mark.Goals as goal

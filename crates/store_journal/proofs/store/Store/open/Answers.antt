@@ -10,10 +10,10 @@ use Rattle.group_log.specs.State.{LogState}
 use Rattle.group_log.specs.Journal.{IsReading, Finds, GoesOn}
 use Rattle.group_log.specs.declared.journal.GroupPlace.{GroupPlace}
 use Rattle.group_log.specs.declared.stops.LogStop.{LogStop}
-use Rattle.store_groups.specs.declared.place.Place.{Place}
-use Rattle.store_groups.specs.Kept.{AreKept}
-use Rattle.store_groups.specs.Taking.{TakesGroup}
-use Rattle.store_groups.proofs.KeptParts.{all_further}
+use Rattle.group_replay.specs.declared.place.Place.{Place}
+use Rattle.group_replay.specs.Kept.{AreKept}
+use Rattle.group_replay.specs.Taking.{TakesGroup}
+use Rattle.group_replay.proofs.KeptParts.{all_further}
 use Rattle.store_journal.specs.Holding.{bodies_of}
 use Rattle.store_journal.specs.Opening.{HoldsSome}
 use Rattle.store_journal.specs.Shown.{StoreState}

@@ -3,7 +3,7 @@ use Rattle.std.specs.Prelude.{◌≡◌, ◌-◌}
 use Rattle.sx_base.specs.Disk.{IsImage}
 use Rattle.sx_base.specs.Crash.{LeavesOnly}
 use Rattle.group_log.specs.Journal.{IsReading}
-use Rattle.store_groups.specs.Kept.{AreKept}
+use Rattle.group_replay.specs.Kept.{AreKept}
 use Rattle.store_journal.proofs.Opened.{HasRead}
 use Rattle.store_journal.proofs.store.Store.open.Given as goal
 

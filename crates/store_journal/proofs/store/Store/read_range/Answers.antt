@@ -4,8 +4,8 @@ use Rattle.std.proofs.Common.{sym, ap, subst, ◌∙◌}
 use Rattle.send_model.specs.Store.{Store}
 use Rattle.subvol_catalog.specs.Entries.{key_of}
 use Rattle.group_log.specs.State.{LogState}
-use Rattle.store_groups.specs.declared.place.Place.{Place}
-use Rattle.store_groups.specs.Kept.{StandsBefore}
+use Rattle.group_replay.specs.declared.place.Place.{Place}
+use Rattle.group_replay.specs.Kept.{StandsBefore}
 use Rattle.store_journal.specs.Reading.{file_cells}
 use Rattle.store_journal.specs.Standing.{place_byte}
 use Rattle.store_journal.proofs.ReadFiles.{file_before, file_bytes, range_read}

@@ -5,12 +5,12 @@ use Rattle.sx_base.proofs.DiskMoments.{begins}
 use Rattle.clone_resolve.specs.Heads.{Resumes}
 use Rattle.clone_resolve.specs.Heads as code_heads
 use Rattle.group_log.proofs.GatedGroups.{rests_has}
-use Rattle.store_groups.specs.declared.place.Place.{Place}
-use Rattle.store_groups.specs.Kept.{IsKept}
+use Rattle.group_replay.specs.declared.place.Place.{Place}
+use Rattle.group_replay.specs.Kept.{IsKept}
 use Rattle.store_journal.specs.Shown.{StoreState}
-use Rattle.store_groups.specs.Taking.{open_state}
+use Rattle.group_replay.specs.Taking.{open_state}
 use Rattle.store_journal.specs.Holding.{bodies_of}
-use Rattle.store_groups.proofs.Resuming.{entry_there, not_none, resumed_is, resumed_none, resumed_uuid, resumed_kept}
+use Rattle.group_replay.proofs.Resuming.{entry_there, not_none, resumed_is, resumed_none, resumed_uuid, resumed_kept}
 use Rattle.store_journal.proofs.store.Store.reopen.Given.{Over}
 use Rattle.store_journal.proofs.store.Store.reopen.Goals.{In-Ok}
 use Rattle.store_journal.proofs.store.Store.reopen.Goals as goal

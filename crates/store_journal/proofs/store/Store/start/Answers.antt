@@ -4,7 +4,7 @@ use Rattle.group_log.specs.Journal.{Grows}
 use Rattle.store_journal.specs.Shown.{StoreState}
 use Rattle.store_journal.specs.Holding.{bodies_of, edits_head, Holds}
 use Rattle.store_journal.proofs.Keeping.{start_builds}
-use Rattle.store_groups.proofs.KeptParts.{kept_further}
+use Rattle.group_replay.proofs.KeptParts.{kept_further}
 use Rattle.store_journal.proofs.store.Store.start.Goals as goal
 
 pub returns-in-Ok-clause-still_open : goal.returns-in-Ok-clause-still_open

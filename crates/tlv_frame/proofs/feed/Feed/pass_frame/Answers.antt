@@ -10,7 +10,8 @@ use Rattle.tlv_frame.proofs.Pieces.{body_in, frame_next, frame_passed, end_is, l
 use Rattle.tlv_frame.proofs.feed.Feed.pass_frame.Goals.{In-Ok-Some}
 use Rattle.tlv_frame.proofs.feed.Feed.pass_frame.Goals as goal
 
--- A frame stands in front: what is known of its header, that all of it is there, and what is handed out.
+-- A frame stands in front: what is known of its header, that all of it is there, and what is handed
+-- out.
 stands : (c : In-Ok-Some) → FindsFrame c.left.result.now (Ok (Some c.in-Ok-Some.head))
     × (10 + c.in-Ok-Some.head.len ≤ length (drop c.self.inside.start c.self.inside.bytes.items))
     × (next_of c.args.self.now ≡ Ok (Some (frame_handed c.args.version c.in-Ok-Some.head.cmd (body_in c.args.self.now.left c.in-Ok-Some.head))))

@@ -1,3 +1,0 @@
-pub mod NamedStreams
-pub mod ComposedAgain
-pub mod ExportedReadings

@@ -1,5 +1,0 @@
-use Rattle.export_model.proofs.ExportedReadings.{named_export_holds, files_are_promised_the_same}
-use Rattle.export_model.proofs.laws.exports_hold.Goals as goal
-
-pub returns : goal.returns
-returns c = record { named = named_export_holds; files = files_are_promised_the_same }

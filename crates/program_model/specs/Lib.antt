@@ -1,0 +1,10 @@
+pub mod EscapedWords
+pub mod FileWords
+pub mod TurnWords
+pub mod Requests
+pub mod Profiles
+pub mod Answers
+pub mod AllRequests
+pub mod AllAnswers
+pub mod WordMeanings
+pub mod Agreement

@@ -1,7 +1,0 @@
-pub mod Listing
-pub mod Sent
-pub mod Restored
-pub mod SentLaws
-pub mod HeldStores
-pub mod StoredLaws
-pub mod Promises

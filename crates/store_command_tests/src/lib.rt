@@ -1,0 +1,11 @@
+//! Tests of `store_commands`. Nothing stands here but tests.
+#![tactic(auto)]
+
+#[cfg(test)]
+mod drop_tests;
+#[cfg(test)]
+mod images;
+#[cfg(test)]
+mod program_tests;
+#[cfg(test)]
+mod same;

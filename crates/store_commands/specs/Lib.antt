@@ -1,0 +1,4 @@
+pub mod Dropping
+pub mod Ending
+pub mod Files
+pub mod Receiving

@@ -1,5 +1,0 @@
-pub mod Dropping
-pub mod Ending
-pub mod Files
-pub mod Naming
-pub mod Receiving

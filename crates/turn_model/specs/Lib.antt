@@ -1,4 +1,0 @@
-pub mod TurnCells
-pub mod TurnDues
-pub mod TurnAnswers
-pub mod TurnDueLaws

@@ -1,4 +1,0 @@
-pub mod EscapedWords
-pub mod NameWords
-pub mod AllRequests
-pub mod AllAnswers

@@ -1,7 +1,0 @@
-//! What all words of the program ask for, and how each is answered: the definitions over those of streams, of stores, of subvolumes that
-//! are sent, and of receives that take turns.
-#![tactic(auto)]
-
-mod laws;
-
-pub use laws::{escaped_words_are_read_back, words_are_answered, words_give_names};
