@@ -44,7 +44,8 @@ Stops the_due ended.Done = ⊥
 -- A command is accepted, or refused for the reason that is due. Nothing is said where there is no
 -- memory.
 abbrev pub Follows : Result Done Stop → Followed → Item → After Followed → Type 0
-Follows (Ok done) new item after = (after ≡ record { state = new; refusal = None }) × (done ≡ done_by item.command)
+Follows (Ok done) new item after =
+    (after ≡ record { state = new; refusal = None }) × (done ≡ done_by item.command)
 Follows (Err (why.Refused refusal)) new item after = after.refusal ≡ Some (refusal_of refusal)
 Follows (Err why.NoMemory) new item after = ⊤
 
@@ -61,7 +62,8 @@ ItemStops the_due ended.Done = ⊥
 
 -- A command is accepted, or it is refused with the verdict at its place.
 abbrev pub ItemEnds : Followed → Followed → Item → Result Done Outcome → Type 0
-ItemEnds old new item (Ok done) = (follow old item ≡ record { state = new; refusal = None }) × (done ≡ done_by item.command)
+ItemEnds old new item (Ok done) =
+    (follow old item ≡ record { state = new; refusal = None }) × (done ≡ done_by item.command)
 ItemEnds old new item (Err outcome) = ItemStops (due_from_here old (read_whole (item ∷ []))) outcome
 
 -- ---- one file
@@ -78,7 +80,8 @@ pub record AreCounted (parts commands : ℕ) (items : List Item) : Type 0 where
   pub commands_are : commands ≡ length items
 
 -- All commands of a file are accepted, and counted, with what is said in front of it.
-pub record FileAccepted (said : Override) (file : ℕ) (old new : Followed) (counts : Counts) (bytes : List ℕ) : Type 0 where
+pub record FileAccepted (said : Override) (file : ℕ) (old new : Followed) (counts : Counts)
+    (bytes : List ℕ) : Type 0 where
   pub items : List Item
   pub read : read_with said (file_read file bytes) ≡ read_whole items
   pub all : AreAccepted old items new
@@ -86,24 +89,28 @@ pub record FileAccepted (said : Override) (file : ℕ) (old new : Followed) (cou
 
 abbrev pub FileEnds : Override → ℕ → Followed → Followed → Result Counts Outcome → List ℕ → Type 0
 FileEnds said file old new (Ok counts) bytes = FileAccepted said file old new counts bytes
-FileEnds said file old new (Err outcome) bytes = Stops (due_from_here old (read_with said (file_read file bytes))) outcome
+FileEnds said file old new (Err outcome) bytes =
+    Stops (due_from_here old (read_with said (file_read file bytes))) outcome
 
 -- ---- all files
 
 -- All commands of the files, with what is said in front of them, are accepted, and counted.
-pub record AllAccepted (overrides : Overrides) (start : Followed) (totals : Totals) (files : List (List ℕ)) : Type 0 where
+pub record AllAccepted (overrides : Overrides) (start : Followed) (totals : Totals)
+    (files : List (List ℕ)) : Type 0 where
   pub done : due_from_here start (overridden_limited overrides (limited_from 1 files)) ≡ DoneWhole
   pub counted : AreCounted totals.parts totals.commands (overridden overrides (input files)).items
 
 abbrev pub AllEnd : Overrides → Followed → Result Totals Outcome → List (List ℕ) → Type 0
 AllEnd overrides start (Ok totals) files = AllAccepted overrides start totals files
-AllEnd overrides start (Err outcome) files = Stops (due_from_here start (overridden_limited overrides (limited_from 1 files))) outcome
+AllEnd overrides start (Err outcome) files =
+    Stops (due_from_here start (overridden_limited overrides (limited_from 1 files))) outcome
 
 -- ---- the line
 
 -- `accepted PARTS COMMANDS`.
 abbrev pub accepted_text : ℕ → ℕ → List ℕ
-accepted_text parts commands = codes "accepted " ++ decimal parts ++ 0x20 ∷ decimal commands ++ 0x0a ∷ []
+accepted_text parts commands =
+    codes "accepted " ++ decimal parts ++ 0x20 ∷ decimal commands ++ 0x0a ∷ []
 
 -- All of a text was written, or a part of it where the output failed, or none where there is no
 -- memory.
@@ -124,6 +131,9 @@ WritesLine text old new before now (ended.InputChanged file place) = ⊥
 -- accepted, a proper front part of it where the output failed then, and else nothing.
 abbrev pub AuditEnds : Store ℕ → List Guard → Overrides → List (List ℕ) → Outcome → List ℕ → Type 0
 AuditEnds store guards overrides files outcome written =
-    EndsAs (audit_due_of store guards (overridden_limited overrides (limited_from 1 files))) (EndSaysOf (Audit [] 0 0) store (sources_with overrides files)) (λ w. w ≡ [])
-    (λ w. (audit_due_of store guards (overridden_limited overrides (limited_from 1 files)) ≡ DoneWhole) × IsProperFrontOf (accepted_line_of (overridden overrides (input files)).items) w)
+    EndsAs (audit_due_of store guards (overridden_limited overrides (limited_from 1 files)))
+    (EndSaysOf (Audit [] 0 0) store (sources_with overrides files)) (λ w. w ≡ [])
+    (λ w. (audit_due_of store guards (overridden_limited overrides (limited_from 1 files))
+    ≡ DoneWhole)
+    × IsProperFrontOf (accepted_line_of (overridden overrides (input files)).items) w)
     outcome written

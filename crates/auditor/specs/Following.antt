@@ -44,7 +44,12 @@ AreAccepted old items new = follow_all old items ≡ record { state = new; refus
 
 -- The answer that is due for what is read from here on.
 abbrev pub due_from_here : Followed → Limited → Due
-due_from_here now read = elim (follow_all now read.items).refused [ Some verdict ↦ RefusedAt verdict | None ↦ stop_due read.stop ]
+due_from_here now read =
+    elim (follow_all now read.items).refused [
+      | Some verdict ↦ RefusedAt verdict
+      | None ↦
+          stop_due read.stop
+    ]
 
 -- Items, and after them what else is read.
 abbrev pub then_read : List Item → Limited → Limited

@@ -13,7 +13,8 @@ use Rattle.chain_trial.specs.declared.trying.Numbers.{Numbers}
 pub record AreNumbers (seed count : ℕ) (numbers : Numbers) : Type 0 where
   pub commands : numbers.commands ≡ length (chain_items seed count)
   pub input : numbers.input ≡ length (chain_of seed count)
-  pub output : numbers.output ≡ length (stream_header 1 ++ canonical_all 1 (trial_composed seed count))
+  pub output : numbers.output
+      ≡ length (stream_header 1 ++ canonical_all 1 (trial_composed seed count))
   pub clones_are : numbers.clones ≡ clones (trial_composed seed count)
   pub redirected : numbers.redirected ≡ uncarried_in [] (ranges_of [] (chain_items seed count))
 
@@ -32,5 +33,6 @@ EndsInMemory (ended.InputChanged file place) = ⊥
 -- The line of some numbers.
 abbrev pub line_text : ℕ → Numbers → List ℕ
 line_text parts n =
-    codes "trial " ++ decimal parts ++ 0x20 ∷ decimal n.commands ++ 0x20 ∷ decimal n.input ++ 0x20 ∷ decimal n.output
+    codes "trial " ++ decimal parts ++ 0x20 ∷ decimal n.commands ++ 0x20 ∷ decimal n.input
+    ++ 0x20 ∷ decimal n.output
     ++ 0x20 ∷ decimal n.clones ++ 0x20 ∷ decimal n.redirected ++ 0x0a ∷ []

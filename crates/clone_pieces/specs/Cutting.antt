@@ -33,11 +33,17 @@ IsNamed ends (Run place len) = IsTrue (is_some (ends place.key place.ino))
 IsNamed ends (Rest at len) = ⊤
 
 -- The commands of a cut to a path and an offset, where each cell has a byte.
-abbrev pub cut_commands : Store ℕ → (Option Trace → ℕ) → List (Option Trace) → List ℕ → ℕ → Cut → List Command
-cut_commands base byte contents path offset (Run place len) = Clone path offset place.key.uuid place.key.ctransid (path_of base place) place.offset len ∷ []
-cut_commands base byte contents path offset (Rest at len) = writes_from len path offset (map byte (cells_between at len contents))
+abbrev pub cut_commands : Store ℕ → (Option Trace → ℕ) → List (Option Trace) → List ℕ → ℕ → Cut
+    → List Command
+cut_commands base byte contents path offset (Run place len) =
+    Clone path offset place.key.uuid place.key.ctransid (path_of base place) place.offset len ∷ []
+cut_commands base byte contents path offset (Rest at len) =
+    writes_from len path offset (map byte (cells_between at len contents))
 
 -- The same of cuts, each behind those before it.
-abbrev pub all_commands : Store ℕ → (Option Trace → ℕ) → List (Option Trace) → List ℕ → ℕ → List Cut → List Command
+abbrev pub all_commands : Store ℕ → (Option Trace → ℕ) → List (Option Trace) → List ℕ → ℕ → List Cut
+    → List Command
 all_commands base byte contents path offset [] = []
-all_commands base byte contents path offset (cut ∷ cuts) = cut_commands base byte contents path offset cut ++ all_commands base byte contents path (offset + cut_len cut) cuts
+all_commands base byte contents path offset (cut ∷ cuts) =
+    cut_commands base byte contents path offset cut
+    ++ all_commands base byte contents path (offset + cut_len cut) cuts

@@ -31,12 +31,15 @@ PieceHad count held (Some (Outside key ino at)) len = at + len ≤ length (held 
 -- So many cells from successive places of an input file stand in it, and are of its data.
 abbrev pub PieceThere : Option Trace → ℕ → List (List ℕ) → Type 0
 PieceThere None len files = ⊤
-PieceThere (Some (Fresh file at)) len files = (at + len ≤ length (get_or files file [])) × ((k : ℕ) → k < len → IsData (file + 1) (get_or files file []) (at + k))
+PieceThere (Some (Fresh file at)) len files =
+    (at + len ≤ length (get_or files file []))
+    × ((k : ℕ) → k < len → IsData (file + 1) (get_or files file []) (at + k))
 PieceThere (Some (Outside key ino at)) len files = ⊤
 
 -- The buffer has the bytes of the cells, or an object of the outside failed. Inputs that tell are
 -- not found changed.
-abbrev pub FillEnd : (meant.Key → ℕ → List ℕ) → List (Option Trace) → List ℕ → Result (Unit {0}) SendStop → List (List ℕ) → Type 0
+abbrev pub FillEnd : (meant.Key → ℕ → List ℕ) → List (Option Trace) → List ℕ
+    → Result (Unit {0}) SendStop → List (List ℕ) → Type 0
 FillEnd held cells new (Ok done) files = new ≡ map (byte_in held files) cells
 FillEnd held cells new (Err stop.InputFault) files = ⊤
 FillEnd held cells new (Err stop.OutputFault) files = ⊥
@@ -45,7 +48,8 @@ FillEnd held cells new (Err (stop.InputChanged file place)) files = ⊥
 
 -- The buffer has bytes of a named file from a place on, or the inputs failed. Inputs that tell are
 -- not found changed.
-abbrev pub AgainEnd : Option (List (List ℕ × List ℕ)) → List ℕ → ℕ → List ℕ → Result (Unit {0}) SendStop → Type 0
+abbrev pub AgainEnd : Option (List (List ℕ × List ℕ)) → List ℕ → ℕ → List ℕ
+    → Result (Unit {0}) SendStop → Type 0
 AgainEnd told name at new (Ok done) = FillsFrom told name at new
 AgainEnd told name at new (Err stop.InputFault) = ⊤
 AgainEnd told name at new (Err (stop.InputChanged file place)) = told ≡ None

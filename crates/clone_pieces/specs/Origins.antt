@@ -27,12 +27,14 @@ IsHad count base (Some (Outside key ino at)) = at < length (outside_cells base (
 -- A cell of an input file stands in it, and is of its data.
 abbrev pub IsInInput : List (List ℕ) → Option Trace → Type 0
 IsInInput files None = Unit {0}
-IsInInput files (Some (Fresh file at)) = (at < length (get_or files file [])) × IsData (file + 1) (get_or files file []) at
+IsInInput files (Some (Fresh file at)) =
+    (at < length (get_or files file [])) × IsData (file + 1) (get_or files file []) at
 IsInInput files (Some (Outside key ino at)) = Unit {0}
 
 -- As many bytes are held of each file as others are of it.
 abbrev pub AreAsLong : (held others : meant.Key → ℕ → List ℕ) → Type 0
-AreAsLong held others = (key : meant.Key) (ino : ℕ) → length (held key ino) ≡ length (others key ino)
+AreAsLong held others =
+    (key : meant.Key) (ino : ℕ) → length (held key ino) ≡ length (others key ino)
 
 -- The bytes that are held of files are those of a base.
 abbrev pub AreHeld : (meant.Key → ℕ → List ℕ) → Store ℕ → Type 0

@@ -23,16 +23,21 @@ seen_cells files base cells = map (seen (byte_of_trace files base) place_of) cel
 
 -- The spelling of what stands for a clone of these cells to a path and an offset.
 abbrev pub pieces_spelled : ℕ → Store ℕ → List ℕ → ℕ → List Traced → List ℕ
-pieces_spelled version base path offset range = canonical_all version (flat_map (piece_commands base path offset) (pieces_of base range))
+pieces_spelled version base path offset range =
+    canonical_all version (flat_map (piece_commands base path offset) (pieces_of base range))
 
 -- The bytes go out, or an object of the outside failed, or there is no memory; then a front part of
 -- them came behind what was pending, and of both a front part was written, and the rest is pending.
 -- Inputs that tell are not found changed.
-abbrev pub RedirectEnd : Option (List ℕ) → Option (List ℕ) → (old new bytes : List ℕ) → Result (Unit {0}) SendStop → Type 0
+abbrev pub RedirectEnd : Option (List ℕ) → Option (List ℕ) → (old new bytes : List ℕ)
+    → Result (Unit {0}) SendStop → Type 0
 RedirectEnd out_old out_new old new bytes (Ok done) = GoesOut out_old out_new old new bytes
-RedirectEnd out_old out_new old new bytes (Err stop.OutputFault) = BreaksOff out_old out_new old new bytes
-RedirectEnd out_old out_new old new bytes (Err stop.InputFault) = GoesPart out_old out_new old new bytes
-RedirectEnd out_old out_new old new bytes (Err stop.NoMemory) = GoesPart out_old out_new old new bytes
+RedirectEnd out_old out_new old new bytes (Err stop.OutputFault) =
+    BreaksOff out_old out_new old new bytes
+RedirectEnd out_old out_new old new bytes (Err stop.InputFault) =
+    GoesPart out_old out_new old new bytes
+RedirectEnd out_old out_new old new bytes (Err stop.NoMemory) =
+    GoesPart out_old out_new old new bytes
 RedirectEnd out_old out_new old new bytes (Err (stop.InputChanged file place)) = ⊥
 
 -- A fault is the cause only where the count of its object rose, and an input is found changed only
@@ -42,6 +47,7 @@ RedirectCaused before now (Ok done) = ⊤
 RedirectCaused before now (Err why) = CausedAgain before now (outcome_with why)
 
 -- An input that was found changed is the file of the last end, with the place where it ended.
-abbrev pub RedirectChanged : (names : List (List ℕ)) (last : EarlyEnd) → Result (Unit {0}) SendStop → Type 0
+abbrev pub RedirectChanged : (names : List (List ℕ)) (last : EarlyEnd) → Result (Unit {0}) SendStop
+    → Type 0
 RedirectChanged names last (Ok done) = ⊤
 RedirectChanged names last (Err why) = FoundChanged names last (outcome_with why)

@@ -10,5 +10,6 @@ abbrev pub seen : {O : Type 0} → (O → ℕ) → (O → Option Place) → Opti
 seen byte place None = fresh 0
 seen byte place (Some origin) = record { byte = byte origin; place = place origin }
 
-abbrev pub seen_state : {O : Type 0} → (O → ℕ) → (O → Option Place) → State (Option O) → State Traced
+abbrev pub seen_state : {O : Type 0} → (O → ℕ) → (O → Option Place) → State (Option O)
+    → State Traced
 seen_state byte place state = recelled_state (seen byte place) state

@@ -42,18 +42,24 @@ pub record Output : Type 0 where
   pub faults : ℕ
 
 abbrev pub output : {O : Type 0} → writing.Ghosts O → O → List ℕ → Output
-output out now pending = record { taken = out.taken now; pending = pending; faults = out.faults now }
+output out now pending =
+    record { taken = out.taken now; pending = pending; faults = out.faults now }
 
 -- Bytes go out; or the output failed, and a proper front part of what was pending and of them was
 -- written, and all of it is pending; or there is no memory, and nothing changed.
 abbrev pub PutEnd : (old new : Output) (bytes : List ℕ) → Result (Unit {0}) SendStop → Type 0
 PutEnd old new bytes (Ok done) = GoesOut old.taken new.taken old.pending new.pending bytes
-PutEnd old new bytes (Err stop.OutputFault) = Rose old.faults new.faults × AppendsPart old.taken new.taken (old.pending ++ bytes) × (new.pending ≡ old.pending ++ bytes)
-PutEnd old new bytes (Err stop.NoMemory) = (new.taken ≡ old.taken) × (new.pending ≡ old.pending) × (new.faults ≡ old.faults)
+PutEnd old new bytes (Err stop.OutputFault) =
+    Rose old.faults new.faults × AppendsPart old.taken new.taken (old.pending ++ bytes)
+    × (new.pending ≡ old.pending ++ bytes)
+PutEnd old new bytes (Err stop.NoMemory) =
+    (new.taken ≡ old.taken) × (new.pending ≡ old.pending) × (new.faults ≡ old.faults)
 PutEnd old new bytes (Err stop.InputFault) = ⊥
 PutEnd old new bytes (Err (stop.InputChanged file place)) = ⊥
 
 -- All that was pending was written, or a proper front part of it, where the output failed.
 abbrev pub SendEnd : (old new : Output) → Result (Unit {0}) Failed → Type 0
 SendEnd old new (Ok done) = (new.pending ≡ []) × Appends old.taken new.taken old.pending
-SendEnd old new (Err failed) = Rose old.faults new.faults × AppendsPart old.taken new.taken old.pending × (new.pending ≡ old.pending)
+SendEnd old new (Err failed) =
+    Rose old.faults new.faults × AppendsPart old.taken new.taken old.pending
+    × (new.pending ≡ old.pending)

@@ -37,7 +37,8 @@ done_by (meant.Rmdir path) = done.Edited
 done_by (meant.SetXattr name value path) = done.Edited
 done_by (meant.RemoveXattr name path) = done.Edited
 done_by (meant.Write path offset bytes) = done.Edited
-done_by (meant.Clone path offset clone_uuid clone_ctransid clone_path clone_offset clone_len) = done.Edited
+done_by (meant.Clone path offset clone_uuid clone_ctransid clone_path clone_offset clone_len) =
+    done.Edited
 done_by (meant.Truncate size path) = done.Edited
 done_by (meant.Chmod mode path) = done.Edited
 done_by (meant.Chown uid gid path) = done.Edited
@@ -60,7 +61,8 @@ Fits store (Some part) = IsTrue (list_any (is_open part.key) store)
 -- where there is no memory.
 abbrev pub Answers : {A C : Type 0} → Result A Stop → State C → Stepped C → Type 0
 Answers (Ok _) new stepped = stepped ≡ record { state = new; refusal = None }
-Answers (Err (stop.Refused refusal)) new stepped = stepped ≡ record { state = new; refusal = Some (refusal_of refusal) }
+Answers (Err (stop.Refused refusal)) new stepped =
+    stepped ≡ record { state = new; refusal = Some (refusal_of refusal) }
 Answers (Err stop.NoMemory) new stepped = Unit {0}
 
 -- A command that changes the contents of one file by its own values alone.
@@ -82,7 +84,8 @@ is_of_contents (meant.Unlink path) = false
 is_of_contents (meant.Rmdir path) = false
 is_of_contents (meant.SetXattr name value path) = false
 is_of_contents (meant.RemoveXattr name path) = false
-is_of_contents (meant.Clone path offset clone_uuid clone_ctransid clone_path clone_offset clone_len) = false
+is_of_contents
+    (meant.Clone path offset clone_uuid clone_ctransid clone_path clone_offset clone_len) = false
 is_of_contents (meant.Chmod mode path) = false
 is_of_contents (meant.Chown uid gid path) = false
 is_of_contents (meant.Utimes mtime atime path) = false

@@ -18,7 +18,8 @@ taken_range key path from len = record { key = key; path = path; from = from; le
 
 -- Where the cells come from that a clone puts at the place `offset` of a file: a range of a file of
 -- a complete subvolume of the store, which stays as it was.
-pub record TakenFrom {C : Type 0} (state after : State C) (offset : ℕ) (range : TakenRange) : Type 0 where
+pub record TakenFrom {C : Type 0} (state after : State C) (offset : ℕ)
+    (range : TakenRange) : Type 0 where
   pub source : Subvolume C
   pub ino : ℕ
   pub found : find state.store range.key ≡ Some source

@@ -16,10 +16,18 @@ use Rattle.cmd_reader.specs.Next.{HasBegun, BeginsAt, Says, EndsAfterEnd}
 
 -- The frame at a reader's place, by its version and its header.
 abbrev pub frame_here : Reader → ℕ → FrameHead → FrameAt
-frame_here r version head = record { file = r.file; number = r.number; offset = r.offset; version = version; cmd = head.cmd }
+frame_here r version head =
+    record {
+      file = r.file;
+      number = r.number;
+      offset = r.offset;
+      version = version;
+      cmd = head.cmd;
+    }
 
 -- The frame at a reader's place was gone past.
-pub record HasGonePast (told : Option (List (List ℕ × List ℕ))) (old new : Reader) (frame : FrameAt) : Type 0 where
+pub record HasGonePast (told : Option (List (List ℕ × List ℕ))) (old new : Reader)
+    (frame : FrameAt) : Type 0 where
   pub version : ℕ
   pub head : FrameHead
   pub h : Handed
@@ -32,7 +40,8 @@ pub record HasGonePast (told : Option (List (List ℕ × List ℕ))) (old new : 
   pub stands : IfTold told old.name (StandsThere old.offset old.fed new.offset new.fed h)
 
 -- Headers were gone past, and then a frame.
-pub record HasReached (told : Option (List (List ℕ × List ℕ))) (old new : Reader) (frame : FrameAt) : Type 0 where
+pub record HasReached (told : Option (List (List ℕ × List ℕ))) (old new : Reader)
+    (frame : FrameAt) : Type 0 where
   pub mid : Reader
   pub begun : HasBegun old mid
   pub begins : IfTold told old.name (BeginsAt old mid)
@@ -46,13 +55,19 @@ pub record FrameFits (new : Reader) (frame : FrameAt) : Type 0 where
   pub version : is_version frame.version ≡ true
 
 -- One step: a header was passed, or there is an answer.
-abbrev pub StepSays : Option (List (List ℕ × List ℕ)) → Reader → Reader → ℕ → ℕ → Option (Result (Option FrameAt) ReadStop) → Type 0
-StepSays told old new before now None = (HasBegun old new × ((old.offset < new.offset) × (new.offset ≤ limit))) × IfTold told old.name (BeginsAt old new)
-StepSays told old new before now (Some answer) = EndsAfterEnd old answer × Says (HasGonePast told old new) told old before now answer
+abbrev pub StepSays : Option (List (List ℕ × List ℕ)) → Reader → Reader → ℕ → ℕ
+    → Option (Result (Option FrameAt) ReadStop) → Type 0
+StepSays told old new before now None =
+    (HasBegun old new × ((old.offset < new.offset) × (new.offset ≤ limit)))
+    × IfTold told old.name (BeginsAt old new)
+StepSays told old new before now (Some answer) =
+    EndsAfterEnd old answer × Says (HasGonePast told old new) told old before now answer
 
 -- All steps up to an answer.
-abbrev pub FrameSays : Option (List (List ℕ × List ℕ)) → Reader → Reader → ℕ → ℕ → Result (Option FrameAt) ReadStop → Type 0
-FrameSays told old new before now answer = EndsAfterEnd old answer × Says (HasReached told old new) told old before now answer
+abbrev pub FrameSays : Option (List (List ℕ × List ℕ)) → Reader → Reader → ℕ → ℕ
+    → Result (Option FrameAt) ReadStop → Type 0
+FrameSays told old new before now answer =
+    EndsAfterEnd old answer × Says (HasReached told old new) told old before now answer
 
 -- Where there is no frame, none was gone past; a refusal stands where the reader stands.
 abbrev pub Halts : Reader → Reader → Result (Option FrameAt) ReadStop → Type 0

@@ -13,14 +13,16 @@ use Rattle.cmd_reader.specs.Mentions.{as_mention}
 
 -- There is an item that was gone past, of this version. What it mentions is its command where that
 -- begins a part or names a key, and else none.
-pub record IsGlance (told : Option (List (List ℕ × List ℕ))) (old new : Reader) (glance : Glance) : Type 0 where
+pub record IsGlance (told : Option (List (List ℕ × List ℕ))) (old new : Reader)
+    (glance : Glance) : Type 0 where
   pub item : reading.Item
   pub version : item.version ≡ glance.version
   pub mention : option_map meaning_of glance.mention ≡ as_mention item.command
   pub read : HasRead told old new item
 
 -- What is seen of the next command, or why there is none.
-abbrev pub GlanceSays : Option (List (List ℕ × List ℕ)) → Reader → Reader → ℕ → ℕ → Result (Option Glance) ReadStop → Type 0
+abbrev pub GlanceSays : Option (List (List ℕ × List ℕ)) → Reader → Reader → ℕ → ℕ
+    → Result (Option Glance) ReadStop → Type 0
 GlanceSays told old new before now result = Says (IsGlance told old new) told old before now result
 
 -- What holds of it by itself.

@@ -18,11 +18,13 @@ use Rattle.cmd_reader.specs.Mentions.{MentionIs}
 
 -- A refusal at a place.
 abbrev pub verdict_at : ℕ → ℕ → ℕ → Refusal → reading.Verdict
-verdict_at file number offset refusal = record { file = file; command = number; offset = offset; refusal = refusal }
+verdict_at file number offset refusal =
+    record { file = file; command = number; offset = offset; refusal = refusal }
 
 -- An answer that no command was read, for a fault at a place.
 abbrev pub StopAt : ℕ → ℕ → ℕ → Fault → ReadStop → Type 0
-StopAt file number offset (Refused refusal) (stop.Refused verdict) = verdict_meant verdict ≡ verdict_at file number offset (refusal_of refusal)
+StopAt file number offset (Refused refusal) (stop.Refused verdict) =
+    verdict_meant verdict ≡ verdict_at file number offset (refusal_of refusal)
 StopAt file number offset (Refused refusal) stop.InputFault = ⊥
 StopAt file number offset (Refused refusal) stop.InputTooLong = ⊥
 StopAt file number offset InputFault why = why ≡ stop.InputFault
@@ -33,8 +35,10 @@ pub record ItemIs (frame : FrameAt) (body : List ℕ) (item : Item) : Type 0 whe
   pub number_is : item.number ≡ frame.number
   pub offset_is : item.offset ≡ frame.offset
   pub version_is : item.version ≡ frame.version
-  pub command_is : CommandIs frame.offset frame.version frame.cmd body (meaning_of item.command) item.data_at
-  pub fits : CommandFits frame.version body (record { command = item.command; data_at = item.data_at; canonical = item.canonical })
+  pub command_is : CommandIs frame.offset frame.version frame.cmd body
+      (meaning_of item.command) item.data_at
+  pub fits : CommandFits frame.version body
+      (record { command = item.command; data_at = item.data_at; canonical = item.canonical })
 
 -- What is seen of the command of a frame, by its body.
 pub record GlanceIs (frame : FrameAt) (body : List ℕ) (glance : Glance) : Type 0 where
@@ -45,7 +49,9 @@ pub record GlanceIs (frame : FrameAt) (body : List ℕ) (glance : Glance) : Type
 -- What a body says is refused, at the frame's place.
 abbrev pub IsRefusedAt : FrameAt → List ℕ → Verdict → Type 0
 IsRefusedAt frame body verdict =
-    (body_read frame.version frame.cmd body ≡ Err (refusal_of verdict.refusal)) × (verdict_meant verdict ≡ verdict_at frame.file frame.number frame.offset (refusal_of verdict.refusal))
+    (body_read frame.version frame.cmd body ≡ Err (refusal_of verdict.refusal))
+    × (verdict_meant verdict
+    ≡ verdict_at frame.file frame.number frame.offset (refusal_of verdict.refusal))
 
 -- What is made of a frame by its body, or that it is refused.
 abbrev pub BodySays : {T : Type 0} → (T → Type 0) → FrameAt → List ℕ → Result T Verdict → Type 0

@@ -32,8 +32,10 @@ is_empty (b ∷ bytes) = false
 
 -- What is left to read of a file from a place on. It may end where a stream has ended.
 abbrev pub left_from : ℕ → Due → Bool → ℕ → ℕ → List ℕ → Reading
-left_from number_of_file due has_ended number offset file = if (is_header_due due && has_ended) && is_empty (drop offset file) then ended
-    else reads_from (suc (length (drop offset file))) number_of_file due number offset (drop offset file)
+left_from number_of_file due has_ended number offset file =
+    if (is_header_due due && has_ended) && is_empty (drop offset file) then ended
+    else reads_from (suc (length (drop offset file))) number_of_file due number offset
+    (drop offset file)
 
 -- What is left to a reader.
 unfoldable pub left : Reader → List ℕ → Reading

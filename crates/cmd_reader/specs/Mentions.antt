@@ -41,4 +41,5 @@ pub record MentionIs (version number : ℕ) (body : List ℕ) (mention : Option 
 
 abbrev pub ReadsMention : ℕ → ℕ → List ℕ → Result (Option Command) code.Refusal → Type 0
 ReadsMention version number body (Ok mention) = MentionIs version number body mention
-ReadsMention version number body (Err refusal) = body_read version number body ≡ Err (refusal_of refusal)
+ReadsMention version number body (Err refusal) =
+    body_read version number body ≡ Err (refusal_of refusal)

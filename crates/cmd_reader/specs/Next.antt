@@ -73,16 +73,20 @@ IsNext old new item file = GoesOn old new (item_of old.file item) file
 
 -- What is left breaks a rule at once, with this verdict.
 abbrev pub IsFaulty : Reader → Verdict → List ℕ → Type 0
-IsFaulty r verdict file = left r file ≡ record { items = []; end = reading.Faulty (verdict_meant verdict) }
+IsFaulty r verdict file =
+    left r file ≡ record { items = []; end = reading.Faulty (verdict_meant verdict) }
 
 -- What was asked for; or the end, or a verdict; or that the file is too long. An end, and a verdict
 -- that the file is cut short, are given only of a file that ends before the limit.
-abbrev pub Says : {T : Type 0} → (T → Type 0) → Option (List (List ℕ × List ℕ)) → Reader → ℕ → ℕ → Result (Option T) ReadStop → Type 0
+abbrev pub Says : {T : Type 0} → (T → Type 0) → Option (List (List ℕ × List ℕ)) → Reader → ℕ → ℕ
+    → Result (Option T) ReadStop → Type 0
 Says given told old before now (Ok (Some x)) = given x
 Says given told old before now (Ok None) = IfTold told old.name (HasEnded old)
-Says given told old before now (Err (stop.Refused verdict)) = IfTold told old.name (IsRefused (λ refusal. IsFaulty old verdict) (refusal_of verdict.refusal))
+Says given told old before now (Err (stop.Refused verdict)) =
+    IfTold told old.name (IsRefused (λ refusal. IsFaulty old verdict) (refusal_of verdict.refusal))
 Says given told old before now (Err stop.InputFault) = Rose before now
-Says given told old before now (Err stop.InputTooLong) = IfTold told old.name (IsLongAt old.offset (OnlyEnds old))
+Says given told old before now (Err stop.InputTooLong) =
+    IfTold told old.name (IsLongAt old.offset (OnlyEnds old))
 
 -- What is read of a frame, or its refusal, as the answer of a call that may also end.
 abbrev pub as_some : {T : Type 0} → Result T Verdict → Result (Option T) ReadStop
@@ -90,8 +94,10 @@ as_some (Ok x) = Ok (Some x)
 as_some (Err verdict) = Err (stop.Refused verdict)
 
 -- The next command, or why there is none.
-abbrev pub NextSays : Option (List (List ℕ × List ℕ)) → Reader → Reader → ℕ → ℕ → Result (Option Item) ReadStop → Type 0
-NextSays told old new before now result = Says (λ (item : Item). IfTold told old.name (IsNext old new item)) told old before now result
+abbrev pub NextSays : Option (List (List ℕ × List ℕ)) → Reader → Reader → ℕ → ℕ
+    → Result (Option Item) ReadStop → Type 0
+NextSays told old new before now result =
+    Says (λ (item : Item). IfTold told old.name (IsNext old new item)) told old before now result
 
 -- What holds of an item, whether or not the inputs tell.
 pub record ItemFits (old new : Reader) (item : Item) : Type 0 where
@@ -106,8 +112,10 @@ pub record ItemFits (old new : Reader) (item : Item) : Type 0 where
   pub same_stream : (version : ℕ) → old.fed.due ≡ CommandDue version → item.version ≡ version
   pub due : new.fed.due ≡ due_after item.version (meaning_of item.command)
   pub at_end : new.fed.ended ≡ is_last (meaning_of item.command)
-  pub spelled : item.canonical ≡ true → new.fed.last ≡ canonical item.version (meaning_of item.command)
-  pub unlike : item.canonical ≡ false → new.fed.last ≢ canonical item.version (meaning_of item.command)
+  pub spelled : item.canonical ≡ true
+      → new.fed.last ≡ canonical item.version (meaning_of item.command)
+  pub unlike : item.canonical ≡ false
+      → new.fed.last ≢ canonical item.version (meaning_of item.command)
 
 -- The same where something was given.
 abbrev pub IfItem : {T : Type 0} → Result (Option T) ReadStop → (T → Type 0) → Type 0
@@ -125,7 +133,8 @@ EndsAfterEnd old (Err why) = ⊤
 
 -- What an item of the definitions is to a reader that has gone past it, whether or not the inputs
 -- tell; where they tell, it is the next one.
-pub record HasRead (told : Option (List (List ℕ × List ℕ))) (old new : Reader) (item : reading.Item) : Type 0 where
+pub record HasRead (told : Option (List (List ℕ × List ℕ))) (old new : Reader)
+    (item : reading.Item) : Type 0 where
   pub file : item.file ≡ old.file
   pub number : item.number ≡ old.number
   pub next_number : new.number ≡ old.number + 1

@@ -7,4 +7,5 @@ use Rattle.sx_base.specs.Outside.{file_at}
 -- byte behind the limit, so it finds the same of each file that has the same bytes before it.
 abbrev pub IfTold : Option (List (List ℕ × List ℕ)) → List ℕ → (List ℕ → Type 0) → Type 0
 IfTold None name P = ⊤
-IfTold (Some files) name P = (file : List ℕ) → take limit file ≡ take limit (file_at files name) → P file
+IfTold (Some files) name P =
+    (file : List ℕ) → take limit file ≡ take limit (file_at files name) → P file

@@ -50,15 +50,20 @@ pub record EndsThere (at : ℕ) (feed : Fed) (file : List ℕ) : Type 0 where
   pub all : drop at file ≡ feed.left
   pub early : length file < limit
 
-abbrev pub MoreSays : Option (List (List ℕ × List ℕ)) → Source → Source → ℕ → ℕ → Result Bool Fault → Type 0
-MoreSays told old new before now (Ok true) = HasMore old new × IfTold told (string_bytes old.name) (IsAhead new.at new.feed)
-MoreSays told old new before now (Ok false) = (new.feed ≡ old.feed) × IfTold told (string_bytes old.name) (EndsThere old.at old.feed)
+abbrev pub MoreSays : Option (List (List ℕ × List ℕ)) → Source → Source → ℕ → ℕ → Result Bool Fault
+    → Type 0
+MoreSays told old new before now (Ok true) =
+    HasMore old new × IfTold told (string_bytes old.name) (IsAhead new.at new.feed)
+MoreSays told old new before now (Ok false) =
+    (new.feed ≡ old.feed) × IfTold told (string_bytes old.name) (EndsThere old.at old.feed)
 MoreSays told old new before now (Err (fault.Refused refusal)) = ⊥
 MoreSays told old new before now (Err fault.InputFault) = (new.feed ≡ old.feed) × Rose before now
-MoreSays told old new before now (Err fault.InputTooLong) = (new.feed ≡ old.feed) × (old.fed ≡ limit)
+MoreSays told old new before now (Err fault.InputTooLong) =
+    (new.feed ≡ old.feed) × (old.fed ≡ limit)
 
 -- A feed at a place went past the header or frame that stood in front of its bytes.
-pub record HasPassed (at : ℕ) (feed : Fed) (next : ℕ) (new : Fed) (unit : Passed) (h : Handed) : Type 0 where
+pub record HasPassed (at : ℕ) (feed : Fed) (next : ℕ) (new : Fed) (unit : Passed)
+    (h : Handed) : Type 0 where
   pub front : List ℕ
   pub comes : handed feed.due front ≡ Ok h
   pub piece : h.piece ≡ passed_piece new unit
@@ -71,7 +76,8 @@ pub record HasPassed (at : ℕ) (feed : Fed) (next : ℕ) (new : Fed) (unit : Pa
   pub bytes : new.last ≡ take h.taken front
 
 -- It is the one that stands in the file.
-pub record StandsThere (at : ℕ) (feed : Fed) (next : ℕ) (new : Fed) (h : Handed) (file : List ℕ) : Type 0 where
+pub record StandsThere (at : ℕ) (feed : Fed) (next : ℕ) (new : Fed) (h : Handed)
+    (file : List ℕ) : Type 0 where
   pub here : handed feed.due (drop at file) ≡ Ok h
   pub bytes : new.last ≡ take h.taken (drop at file)
   pub ahead : IsAhead next new file
@@ -107,7 +113,10 @@ pub record Pass : Type 0 where
 
 -- A header or frame was gone past, and it is the one that stands in the file.
 abbrev pub GoesPast : Pass → Passed → Type 0
-GoesPast p unit = (h : Handed) × (HasPassed p.at p.feed p.next p.new unit h × IfTold p.told p.name (StandsThere p.at p.feed p.next p.new h))
+GoesPast p unit =
+    (h : Handed)
+    × (HasPassed p.at p.feed p.next p.new unit h
+    × IfTold p.told p.name (StandsThere p.at p.feed p.next p.new h))
 
 -- None was, and this holds of the file.
 abbrev pub Stays : Pass → (List ℕ → Type 0) → Type 0
@@ -116,14 +125,24 @@ Stays p P = HasStayed p.at p.feed p.next p.new × IfTold p.told p.name P
 abbrev pub PassSays : Pass → (before now : ℕ) → Result (Option Passed) Fault → Type 0
 PassSays p before now (Ok (Some unit)) = GoesPast p unit
 PassSays p before now (Ok None) = Stays p (IsCutShort p.next p.new)
-PassSays p before now (Err (fault.Refused refusal)) = Stays p (BadThere p.at p.feed.due (refusal_of refusal))
+PassSays p before now (Err (fault.Refused refusal)) =
+    Stays p (BadThere p.at p.feed.due (refusal_of refusal))
 PassSays p before now (Err fault.InputFault) = HasStayed p.at p.feed p.next p.new × Rose before now
-PassSays p before now (Err fault.InputTooLong) = Stays p (IsLongAt p.at (NotThere p.at p.feed.due meant.Truncated))
+PassSays p before now (Err fault.InputTooLong) =
+    Stays p (IsLongAt p.at (NotThere p.at p.feed.due meant.Truncated))
 
 -- The same of a source.
-abbrev pub SourcePasses : Option (List (List ℕ × List ℕ)) → Source → Source → ℕ → ℕ → Result (Option Passed) Fault → Type 0
+abbrev pub SourcePasses : Option (List (List ℕ × List ℕ)) → Source → Source → ℕ → ℕ
+    → Result (Option Passed) Fault → Type 0
 SourcePasses told old new before now result =
-    PassSays (record { told = told; name = string_bytes old.name; at = old.at; feed = old.feed; next = new.at; new = new.feed }) before now result
+    PassSays (record {
+      told = told;
+      name = string_bytes old.name;
+      at = old.at;
+      feed = old.feed;
+      next = new.at;
+      new = new.feed;
+    }) before now result
 
 -- Where the inputs tell, the source's bytes are those of its file.
 abbrev pub SourceAhead : Option (List (List ℕ × List ℕ)) → Source → Type 0

@@ -30,5 +30,8 @@ unfolding find
 no_ends held key ino = one (same_key held key)
   where
     one : (b : Bool) → None ≡ file_end (if b then Some held_subvolume else None) ino
-    one true = sym (ap (λ (f : Bool). if f && is_nameable held_subvolume ino then Some (length (cells_of held_subvolume ino)) else None) (no_file ino))
+    one true = sym
+        (ap (λ (f : Bool). if f
+        && is_nameable held_subvolume ino then Some
+        (length (cells_of held_subvolume ino)) else None) (no_file ino))
     one false = refl

@@ -44,18 +44,23 @@ IsLastPlace before place (Some item) = IsPlace place item
 
 -- All items of a file were taken, with the name that is given for it, and of the bytes that are
 -- then to be written some were. The file is not too long.
-pub record FileTaken (o : Over) (file : OneFile) (old new : Reached) (before place : Place) : Type 0 where
+pub record FileTaken (o : Over) (file : OneFile) (old new : Reached)
+    (before place : Place) : Type 0 where
   pub items : List Item
   pub sent : List ℕ
   pub read : reads file.number file.bytes ≡ record { items = items; end = Whole }
-  pub all : advance_all o.plan (composing_of o.files o.plan.base old.kept) (map (overridden_as file.given) items) ≡ Ok (unsent sent (composing_of o.files o.plan.base new.kept))
+  pub all : advance_all o.plan (composing_of o.files o.plan.base old.kept)
+      (map (overridden_as file.given) items)
+      ≡ Ok (unsent sent (composing_of o.files o.plan.base new.kept))
   pub appends : Appends old.taken new.taken sent
   pub last : IsLastPlace before place (last_item items)
-  pub latest : new.kept.latest ≡ first_of (last_head (heads (map (overridden_as file.given) items))) old.kept.latest
+  pub latest : new.kept.latest
+      ≡ first_of (last_head (heads (map (overridden_as file.given) items))) old.kept.latest
   pub fits : is_too_long file.number file.bytes ≡ false
 
 -- The next item that is read is not taken, with the name that is given.
-pub record NextHalts (plan : Plan) (given : Override) (now : Composing) (rest : Reading) (halt : Halt) (item : Item) : Type 0 where
+pub record NextHalts (plan : Plan) (given : Override) (now : Composing) (rest : Reading)
+    (halt : Halt) (item : Item) : Type 0 where
   pub more : Reading
   pub front : rest ≡ with_item item more
   pub halted : advance plan now (overridden_as given item) ≡ Err halt
@@ -71,9 +76,13 @@ pub record NextAbove (plan : Plan) (rest : Reading) : Type 0 where
 abbrev pub FileWhy : Plan → OneFile → Composing → Reading → Outcome → Type 0
 FileWhy plan file now rest (ended.Refused verdict) =
     (rest ≡ record { items = []; end = Faulty (verdict_meant verdict) })
-    ⊎ (((item : Item) × (halt : Halt) × NextHalts plan file.given now rest halt item × (halt_due (overridden_as file.given item) halt ≡ RefusedAt (verdict_meant verdict))) ⊎ NextAbove plan rest)
-FileWhy plan file now rest (ended.TooMuch sum) = (item : Item) × NextHalts plan file.given now rest (Exceeds sum) item
-FileWhy plan file now rest (ended.InputTooLong number) = (number ≡ file.number) × (is_too_long file.number file.bytes ≡ true)
+    ⊎ (((item : Item) × (halt : Halt) × NextHalts plan file.given now rest halt item
+    × (halt_due (overridden_as file.given item) halt ≡ RefusedAt (verdict_meant verdict)))
+    ⊎ NextAbove plan rest)
+FileWhy plan file now rest (ended.TooMuch sum) =
+    (item : Item) × NextHalts plan file.given now rest (Exceeds sum) item
+FileWhy plan file now rest (ended.InputTooLong number) =
+    (number ≡ file.number) × (is_too_long file.number file.bytes ≡ true)
 FileWhy plan file now rest ended.Done = ⊥
 FileWhy plan file now rest (ended.InputChanged number place) = ⊥
 FileWhy plan file now rest ended.InputFault = ⊤
@@ -82,18 +91,21 @@ FileWhy plan file now rest ended.NoMemory = ⊤
 
 -- Some items of the file were taken, and a front part of the bytes was written that were then to be
 -- written; all of them, where an object of the outside did not fail and there was memory.
-pub record FileStops (o : Over) (file : OneFile) (old : Reached) (out_new : Option (List ℕ)) (outcome : Outcome) : Type 0 where
+pub record FileStops (o : Over) (file : OneFile) (old : Reached) (out_new : Option (List ℕ))
+    (outcome : Outcome) : Type 0 where
   pub items : List Item
   pub rest : Reading
   pub next : Composing
   pub read : reads file.number file.bytes ≡ then_reading items rest
-  pub all : advance_all o.plan (composing_of o.files o.plan.base old.kept) (map (overridden_as file.given) items) ≡ Ok next
+  pub all : advance_all o.plan (composing_of o.files o.plan.base old.kept)
+      (map (overridden_as file.given) items) ≡ Ok next
   pub front : AppendsFront old.taken out_new next.pending
   pub whole : AllWhereEnded outcome old.taken out_new next.pending
   pub why : FileWhy o.plan file next rest outcome
 
 -- Composing a file that comes after the place before it.
-abbrev pub FileEnd : Over → OneFile → (before : Place) → (old new : Reached) → Result Place Outcome → Type 0
+abbrev pub FileEnd : Over → OneFile → (before : Place) → (old new : Reached) → Result Place Outcome
+    → Type 0
 FileEnd o file before old new (Ok place) = FileTaken o file old new before place
 FileEnd o file before old new (Err outcome) = FileStops o file old new.taken outcome
 
@@ -102,10 +114,12 @@ FileEnd o file before old new (Err outcome) = FileStops o file old new.taken out
 -- Composing all files over a base, with the names that are given, ends as is due, and the headline
 -- holds of what was written where all was done. Where a command is refused, all was written that
 -- stands for those before it.
-pub record ComposeEnds (base : Store ℕ) (given : Overrides) (files : List (List ℕ)) (outcome : Outcome) (written : List ℕ) : Type 0 where
+pub record ComposeEnds (base : Store ℕ) (given : Overrides) (files : List (List ℕ))
+    (outcome : Outcome) (written : List ℕ) : Type 0 where
   pub ends : EndsOf (Compose 1 2) base (sources_with given files) outcome written
   pub composed : outcome ≡ ended.Done → IsComposedOf base (overridden given (input files)) written
-  pub refused : (verdict : Verdict) → outcome ≡ ended.Refused verdict → written ≡ whole_output_of base (overridden given (input files))
+  pub refused : (verdict : Verdict) → outcome ≡ ended.Refused verdict
+      → written ≡ whole_output_of base (overridden given (input files))
 
 abbrev pub outcome_in : Result (Unit {0}) Outcome → Outcome
 outcome_in (Ok done) = ended.Done

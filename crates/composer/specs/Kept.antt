@@ -18,7 +18,8 @@ pub record Kept : Type 0 where
 
 -- Before the first command: the base's subvolumes, traced to themselves.
 abbrev pub kept_at_start : Store (Option Trace) → Kept
-kept_at_start store = record { state = record { store = store; part = None }; latest = None; sum = 0; pending = [] }
+kept_at_start store =
+    record { state = record { store = store; part = None }; latest = None; sum = 0; pending = [] }
 
 -- With the bytes of the input files and of the base.
 abbrev pub composing_of : List (List ℕ) → Store ℕ → Kept → Composing

@@ -27,7 +27,13 @@ pub record Plan : Type 0 where
 
 -- The plan for all items of what is read.
 abbrev pub plan_of : Store ℕ → List Item → Plan
-plan_of base items = record { base = base; parts = part_uuids items; version = version_of items; last = last_head (heads items) }
+plan_of base items =
+    record {
+      base = base;
+      parts = part_uuids items;
+      version = version_of items;
+      last = last_head (heads items);
+    }
 
 -- What is kept between two commands: the store and the part so far, with where their bytes come
 -- from; the part that the next head has to follow; the uuid of the part so far; whether the stream
@@ -43,7 +49,15 @@ pub record Composing : Type 0 where
 
 -- Before the first command.
 abbrev pub at_start : Plan → Composing
-at_start plan = record { state = start_of (traced_store plan.base); previous = None; current = None; begun = false; sum = 0; pending = [] }
+at_start plan =
+    record {
+      state = start_of (traced_store plan.base);
+      previous = None;
+      current = None;
+      begun = false;
+      sum = 0;
+      pending = [];
+    }
 
 -- Why a command is not taken: it is refused, or with it too many bytes come from no outside
 -- subvolume.
@@ -62,14 +76,16 @@ halt_due item (Exceeds sum) = TooMuch sum
 abbrev pub begin_bytes : ℕ → Bool → Head → Option Head → List ℕ
 begin_bytes version begun last None = []
 begin_bytes version true last (Some head) = []
-begin_bytes version false last (Some head) = stream_header version ++ canonical version (head_command last.name last.key head.parent)
+begin_bytes version false last (Some head) =
+    stream_header version ++ canonical version (head_command last.name last.key head.parent)
 
 -- The bytes that a command adds, where the last head is given.
 abbrev pub added_with : Plan → Composing → Option Head → Command → List ℕ
 added_with plan now None command = []
 added_with plan now (Some last) command =
     begin_bytes plan.version now.begun last (head_of command)
-    ++ canonical_all plan.version (commands_for plan.base plan.parts last.key now.state now.current command)
+    ++ canonical_all plan.version
+    (commands_for plan.base plan.parts last.key now.state now.current command)
 
 -- What is kept after an item that is taken.
 abbrev pub after_item : Plan → Composing → Item → Composing
@@ -98,18 +114,22 @@ then_kept None false next = if nat_lt most_literal next.sum then Err (Exceeds ne
 -- One item: its step, the order of its head, the sum of bytes, and the bytes that it adds.
 unfoldable pub advance : Plan → Composing → Item → Result Composing Halt
 advance plan now item =
-    then_kept (traced_step now.state item).refusal (breaks_order now.previous (head_of item.command) || is_unforeseen plan.last (head_of item.command))
+    then_kept (traced_step now.state item).refusal
+    (breaks_order now.previous (head_of item.command)
+    || is_unforeseen plan.last (head_of item.command))
     (after_item plan now item)
 
 -- Nothing follows an item that is not taken.
-abbrev pub then_items : Result Composing Halt → (Composing → Result Composing Halt) → Result Composing Halt
+abbrev pub then_items : Result Composing Halt → (Composing → Result Composing Halt)
+    → Result Composing Halt
 then_items (Ok now) rest = rest now
 then_items (Err halt) rest = Err halt
 
 -- Items in order, up to the first that is not taken.
 unfoldable pub advance_all : Plan → Composing → List Item → Result Composing Halt
 advance_all plan now [] = Ok now
-advance_all plan now (item ∷ items) = then_items (advance plan now item) (λ next. advance_all plan next items)
+advance_all plan now (item ∷ items) =
+    then_items (advance plan now item) (λ next. advance_all plan next items)
 
 -- What composing would keep if these bytes were not sent yet.
 abbrev pub unsent : List ℕ → Composing → Composing
@@ -122,12 +142,14 @@ unsent sent now = record now { pending = sent ++ now.pending }
 abbrev pub composed_up_to : Plan → Option Head → Head → List Item → List Command
 composed_up_to plan None last items = []
 composed_up_to plan (Some first) last items =
-    head_command last.name last.key first.parent ∷ composed_from plan.base plan.parts last.key (start_of (traced_store plan.base)) None items
+    head_command last.name last.key first.parent
+    ∷ composed_from plan.base plan.parts last.key (start_of (traced_store plan.base)) None items
 
 -- Their bytes, with the header of the stream, where there is a last head.
 abbrev pub written_with : Plan → Option Head → List Item → List ℕ
 written_with plan None items = []
-written_with plan (Some last) items = stream_front plan.version (composed_up_to plan (first_head (heads items)) last items)
+written_with plan (Some last) items =
+    stream_front plan.version (composed_up_to plan (first_head (heads items)) last items)
 
 -- The bytes of the stream up to the last of the items.
 abbrev pub written_up_to : Plan → List Item → List ℕ
@@ -141,12 +163,14 @@ current_after current (item ∷ items) = current_after (uuid_after current item.
 -- Items are all taken, and lead from one state to another.
 abbrev pub AreTaken : State Traced → List Item → State Traced → Type 0
 AreTaken state [] end = state ≡ end
-AreTaken state (item ∷ items) end = ((traced_step state item).refusal ≡ None) × AreTaken (traced_step state item).state items end
+AreTaken state (item ∷ items) end =
+    ((traced_step state item).refusal ≡ None) × AreTaken (traced_step state item).state items end
 
 -- Each command that stands for the items so far can be written in the version of the stream, and
 -- none of them is END.
 abbrev pub AreWritable : Plan → List Item → Type 0
-AreWritable plan items = (first last : Head) → first_head (heads items) ≡ Some first → plan.last ≡ Some last
+AreWritable plan items =
+    (first last : Head) → first_head (heads items) ≡ Some first → plan.last ≡ Some last
     → AreInner plan.version (composed_up_to plan (Some first) last items)
 
 -- ---- files
@@ -165,5 +189,7 @@ HasNone base uuids = (k : Key) → is_among uuids k.uuid ≡ true → find base 
 pub record AreReady (base : Store ℕ) (given : Overrides) (files : List (List ℕ)) : Type 0 where
   pub none : HasNone base (part_uuids (overridden given (input files)).items)
   pub version : is_version (version_of (overridden given (input files)).items) ≡ true
-  pub writable : (items more : List Item) (end : State Traced) → (overridden given (input files)).items ≡ items ++ more → AreTaken (start_of (traced_store base)) items end
+  pub writable : (items more : List Item) (end : State Traced)
+      → (overridden given (input files)).items ≡ items ++ more
+      → AreTaken (start_of (traced_store base)) items end
       → AreWritable (plan_for base given files) items

@@ -27,12 +27,16 @@ use Rattle.composer.specs.Reached.{Over, Reached}
 
 -- The data of an item stand at its place in its file.
 pub record DataStand (files : List (List ℕ)) (item : Item) : Type 0 where
-  pub there : take (length (bytes_of item.command)) (drop item.data_at (get_or files (item.file - 1) [])) ≡ bytes_of item.command
-  pub within : item.data_at + length (bytes_of item.command) ≤ length (get_or files (item.file - 1) [])
-  pub are_data : (k : ℕ) → k < length (bytes_of item.command) → IsData (item.file - 1 + 1) (get_or files (item.file - 1) []) (item.data_at + k)
+  pub there : take (length (bytes_of item.command))
+      (drop item.data_at (get_or files (item.file - 1) [])) ≡ bytes_of item.command
+  pub within : item.data_at + length (bytes_of item.command) ≤ length
+      (get_or files (item.file - 1) [])
+  pub are_data : (k : ℕ) → k < length (bytes_of item.command)
+      → IsData (item.file - 1 + 1) (get_or files (item.file - 1) []) (item.data_at + k)
 
 -- The item was taken, and of the bytes that are then to be written some were.
-pub record ItemTaken (plan : Plan) (old new : Composing) (item : Item) (out_old out_new : Option (List ℕ)) : Type 0 where
+pub record ItemTaken (plan : Plan) (old new : Composing) (item : Item)
+    (out_old out_new : Option (List ℕ)) : Type 0 where
   pub next : Composing
   pub sent : List ℕ
   pub taken : advance plan old item ≡ Ok next
@@ -40,7 +44,8 @@ pub record ItemTaken (plan : Plan) (old new : Composing) (item : Item) (out_old 
   pub appends : Appends out_old out_new sent
 
 -- The item is refused with a verdict at its place.
-pub record ItemRefused (plan : Plan) (now : Composing) (item : Item) (verdict : Verdict) : Type 0 where
+pub record ItemRefused (plan : Plan) (now : Composing) (item : Item)
+    (verdict : Verdict) : Type 0 where
   pub refusal : meant.Refusal
   pub refused : advance plan now item ≡ Err (Refuses refusal)
   pub verdict_is : verdict_meant verdict ≡ verdict_of item refusal
@@ -48,8 +53,10 @@ pub record ItemRefused (plan : Plan) (now : Composing) (item : Item) (verdict : 
 -- Why nothing follows an item: it is refused, or with it there is too much, or there is no memory,
 -- or an object of the outside failed. Inputs that tell are not found changed.
 abbrev pub ItemWhy : Plan → Composing → Composing → Item → Outcome → Type 0
-ItemWhy plan old next item (ended.Refused verdict) = (next ≡ old) × ItemRefused plan old item verdict
-ItemWhy plan old next item (ended.TooMuch sum) = (next ≡ old) × (advance plan old item ≡ Err (Exceeds sum))
+ItemWhy plan old next item (ended.Refused verdict) =
+    (next ≡ old) × ItemRefused plan old item verdict
+ItemWhy plan old next item (ended.TooMuch sum) =
+    (next ≡ old) × (advance plan old item ≡ Err (Exceeds sum))
 ItemWhy plan old next item ended.NoMemory = (next ≡ old) ⊎ (advance plan old item ≡ Ok next)
 ItemWhy plan old next item ended.InputFault = (next ≡ old) ⊎ (advance plan old item ≡ Ok next)
 ItemWhy plan old next item ended.OutputFault = (next ≡ old) ⊎ (advance plan old item ≡ Ok next)
@@ -74,7 +81,8 @@ AllWhereEnded ended.Done out_old out_new bytes = ⊤
 -- there was no memory, a front part of them had come; of that a front part was written, and the
 -- rest is pending.
 abbrev pub LeftBy : Outcome → (out_old out_new : Option (List ℕ)) → (left bytes : List ℕ) → Type 0
-LeftBy (ended.Refused verdict) out_old out_new left bytes = Appends out_old out_new bytes × (left ≡ [])
+LeftBy (ended.Refused verdict) out_old out_new left bytes =
+    Appends out_old out_new bytes × (left ≡ [])
 LeftBy (ended.TooMuch sum) out_old out_new left bytes = Appends out_old out_new bytes × (left ≡ [])
 LeftBy ended.OutputFault out_old out_new left bytes = BreaksOff out_old out_new [] left bytes
 LeftBy ended.InputFault out_old out_new left bytes = GoesPart out_old out_new [] left bytes
@@ -85,7 +93,8 @@ LeftBy ended.Done out_old out_new left bytes = ⊥
 
 -- The item is not taken, or nothing follows it; what became of the bytes that were then to be
 -- written.
-pub record ItemStops (plan : Plan) (old : Composing) (item : Item) (outcome : Outcome) (out_old out_new : Option (List ℕ)) (left : List ℕ) : Type 0 where
+pub record ItemStops (plan : Plan) (old : Composing) (item : Item) (outcome : Outcome)
+    (out_old out_new : Option (List ℕ)) (left : List ℕ) : Type 0 where
   pub next : Composing
   pub why : ItemWhy plan old next item outcome
   pub goes : LeftBy outcome out_old out_new left next.pending
@@ -95,8 +104,13 @@ abbrev pub ItemKept : Kept → Kept → Item → Type 0
 ItemKept old new item = new.latest ≡ first_of (head_of item.command) old.latest
 
 abbrev pub ItemEnd : Over → Item → (old new : Reached) → Result (Unit {0}) Outcome → Type 0
-ItemEnd o item old new (Ok done) = ItemTaken o.plan (composing_of o.files o.plan.base old.kept) (composing_of o.files o.plan.base new.kept) item old.taken new.taken × ItemKept old.kept new.kept item
-ItemEnd o item old new (Err outcome) = ItemStops o.plan (composing_of o.files o.plan.base old.kept) item outcome old.taken new.taken new.kept.pending
+ItemEnd o item old new (Ok done) =
+    ItemTaken o.plan (composing_of o.files o.plan.base old.kept)
+    (composing_of o.files o.plan.base new.kept) item old.taken new.taken
+    × ItemKept old.kept new.kept item
+ItemEnd o item old new (Err outcome) =
+    ItemStops o.plan
+    (composing_of o.files o.plan.base old.kept) item outcome old.taken new.taken new.kept.pending
 
 -- ---- causes
 
@@ -117,16 +131,24 @@ pub record AllOut (old new : Output) : Type 0 where
 -- the inputs have failed, or there is no memory, nothing was, and nothing is asked of the output.
 -- Else a front part of what is pending was written: all of it, where the output did not fail then.
 pub record StopEnd (old new : Output) (outcome result : Outcome) : Type 0 where
-  pub outcome_is : (result ≡ outcome) ⊎ ((result ≡ ended.OutputFault) × (outcome ≢ ended.InputFault) × (outcome ≢ ended.NoMemory) × Rose old.faults new.faults)
+  pub outcome_is : (result ≡ outcome)
+      ⊎ ((result ≡ ended.OutputFault) × (outcome ≢ ended.InputFault) × (outcome ≢ ended.NoMemory)
+      × Rose old.faults new.faults)
   pub front : AppendsFront old.taken new.taken old.pending
   pub sent : outcome ≢ ended.InputFault → outcome ≢ ended.NoMemory
-      → ((result ≡ outcome) × AllOut old new) ⊎ ((result ≡ ended.OutputFault) × (new.pending ≡ old.pending) × Rose old.faults new.faults × AppendsPart old.taken new.taken old.pending)
-  pub quiet : (outcome ≡ ended.InputFault) ⊎ (outcome ≡ ended.NoMemory) → (result ≡ outcome) × (new.pending ≡ old.pending) × (new.faults ≡ old.faults) × Appends old.taken new.taken []
+      → ((result ≡ outcome) × AllOut old new)
+      ⊎ ((result ≡ ended.OutputFault) × (new.pending ≡ old.pending) × Rose old.faults new.faults
+      × AppendsPart old.taken new.taken old.pending)
+  pub quiet : (outcome ≡ ended.InputFault) ⊎ (outcome ≡ ended.NoMemory)
+      → (result ≡ outcome) × (new.pending ≡ old.pending) × (new.faults ≡ old.faults)
+      × Appends old.taken new.taken []
 
 -- All that was pending with END was written, or a proper front part of it, where the output failed.
-abbrev pub EndEnd : List ℕ → Option (List ℕ) → Option (List ℕ) → ℕ → ℕ → Result (Unit {0}) SendStop → Type 0
+abbrev pub EndEnd : List ℕ → Option (List ℕ) → Option (List ℕ) → ℕ → ℕ → Result (Unit {0}) SendStop
+    → Type 0
 EndEnd bytes out_old out_new before now (Ok done) = Appends out_old out_new bytes
-EndEnd bytes out_old out_new before now (Err stop.OutputFault) = Rose before now × AppendsPart out_old out_new bytes
+EndEnd bytes out_old out_new before now (Err stop.OutputFault) =
+    Rose before now × AppendsPart out_old out_new bytes
 EndEnd bytes out_old out_new before now (Err stop.NoMemory) = Appends out_old out_new []
 EndEnd bytes out_old out_new before now (Err stop.InputFault) = ⊥
 EndEnd bytes out_old out_new before now (Err (stop.InputChanged file place)) = ⊥
@@ -135,7 +157,8 @@ EndEnd bytes out_old out_new before now (Err (stop.InputChanged file place)) = �
 -- there was no memory for it.
 abbrev pub EndStands : ℕ → Kept → Kept → Result (Unit {0}) SendStop → Type 0
 EndStands version old new (Ok done) = ⊤
-EndStands version old new (Err stop.OutputFault) = new ≡ record old { pending = old.pending ++ canonical version End }
+EndStands version old new (Err stop.OutputFault) =
+    new ≡ record old { pending = old.pending ++ canonical version End }
 EndStands version old new (Err stop.NoMemory) = new ≡ old
 EndStands version old new (Err stop.InputFault) = ⊥
 EndStands version old new (Err (stop.InputChanged file place)) = ⊥

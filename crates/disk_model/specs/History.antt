@@ -20,16 +20,21 @@ time syncs calls = 2 ^ 64 * syncs + min calls (2 ^ 64 - 1)
 -- after so many syncs.
 abbrev pub Left : ℕ → List Ended → ℕ → List ℕ → Type 0
 Left syncs [] t image = ⊥
-Left syncs (end ∷ ended) t image = ((t ≤ time syncs end.calls) × IsImage end.pending image) ⊎ Left (suc syncs) ended t image
+Left syncs (end ∷ ended) t image =
+    ((t ≤ time syncs end.calls) × IsImage end.pending image) ⊎ Left (suc syncs) ended t image
 
 -- when a time has begun, those before it are over
-none_left : (syncs : ℕ) (ended : List Ended) (t : ℕ) (image : List ℕ) → 2 ^ 64 * (syncs + length ended) ≤ t → Left syncs ended t image → ⊥
+none_left : (syncs : ℕ) (ended : List Ended) (t : ℕ) (image : List ℕ)
+    → 2 ^ 64 * (syncs + length ended) ≤ t → Left syncs ended t image → ⊥
 none_left syncs [] t image late left = left
 none_left syncs (end ∷ ended) t image late (inl here) = omega (arith, late, here.0)
-none_left syncs (end ∷ ended) t image late (inr later) = none_left (suc syncs) ended t image (omega (arith, late)) later
+none_left syncs (end ∷ ended) t image late (inr later) =
+    none_left (suc syncs) ended t image (omega (arith, late)) later
 
-pub only_this : (ended : List Ended) (calls : ℕ) (pending : Pending) (image : List ℕ) → Left 0 ended (time (length ended) calls) image ⊎ IsImage pending image → IsImage pending image
-only_this ended calls pending image (inl before) = absurd (none_left 0 ended (time (length ended) calls) image (omega arith) before)
+pub only_this : (ended : List Ended) (calls : ℕ) (pending : Pending) (image : List ℕ)
+    → Left 0 ended (time (length ended) calls) image ⊎ IsImage pending image → IsImage pending image
+only_this ended calls pending image (inl before) =
+    absurd (none_left 0 ended (time (length ended) calls) image (omega arith) before)
 only_this ended calls pending image (inr now) = now
 
 agrees_known : (touched : List Bool) (bytes : List ℕ) → Agrees (known_of touched bytes) bytes
@@ -39,5 +44,8 @@ agrees_known (true ∷ touched) (b ∷ bytes) = agrees_known touched bytes
 agrees_known (false ∷ touched) (b ∷ bytes) = (refl, agrees_known touched bytes)
 
 -- what a read gives is an image
-pub bytes_are_image : (touched : List Bool) (bytes : List ℕ) (greatest : ℕ) → IsImage (record { known = known_of touched bytes; greatest = max greatest (length bytes) }) bytes
-bytes_are_image touched bytes greatest = record { known = agrees_known touched bytes; short = omega arith }
+pub bytes_are_image : (touched : List Bool) (bytes : List ℕ) (greatest : ℕ)
+    → IsImage
+    (record { known = known_of touched bytes; greatest = max greatest (length bytes) }) bytes
+bytes_are_image touched bytes greatest =
+    record { known = agrees_known touched bytes; short = omega arith }

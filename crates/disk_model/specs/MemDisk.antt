@@ -29,4 +29,5 @@ abbrev pub moment_of : MemDisk → ℕ
 moment_of disk = time (length (map end_of disk.past.items)) disk.current.calls
 
 abbrev pub left_of : MemDisk → ℕ → List ℕ → Type 0
-left_of disk t image = Left 0 (map end_of disk.past.items) t image ⊎ IsImage (pending_in disk.current) image
+left_of disk t image =
+    Left 0 (map end_of disk.past.items) t image ⊎ IsImage (pending_in disk.current) image

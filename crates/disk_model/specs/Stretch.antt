@@ -11,4 +11,8 @@ known_of (true ∷ touched) (byte ∷ bytes) = None ∷ known_of touched bytes
 known_of (false ∷ touched) (byte ∷ bytes) = Some byte ∷ known_of touched bytes
 
 abbrev pub pending_in : Stretch → Pending
-pending_in s = record { known = known_of s.touched.items s.bytes.items; greatest = max s.greatest (length s.bytes.items) }
+pending_in s =
+    record {
+      known = known_of s.touched.items s.bytes.items;
+      greatest = max s.greatest (length s.bytes.items);
+    }

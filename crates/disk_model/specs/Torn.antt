@@ -10,7 +10,8 @@ with_zeros (Some byte ∷ known) = byte ∷ with_zeros known
 
 -- the stable bytes, with the greatest size and zeros where nothing is known
 abbrev pub stable_of : Pending → List ℕ
-stable_of pending = with_zeros pending.known ++ replicate (pending.greatest - length pending.known) 0
+stable_of pending =
+    with_zeros pending.known ++ replicate (pending.greatest - length pending.known) 0
 
 -- What a crash leaves of a byte: a byte that is known, and for choice 1 a zero in place of any
 -- other.

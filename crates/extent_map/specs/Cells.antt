@@ -12,7 +12,8 @@ resize_cells empty size cells = take size cells ++ replicate (size - length cell
 -- `at` filled by empty cells. No new cells change nothing.
 unfoldable pub put_cells : {C : Type 0} → C → ℕ → List C → List C → List C
 put_cells empty at [] cells = cells
-put_cells empty at (c ∷ cs) cells = resize_cells empty at cells ++ (c ∷ cs) ++ drop (at + length (c ∷ cs)) cells
+put_cells empty at (c ∷ cs) cells =
+    resize_cells empty at cells ++ (c ∷ cs) ++ drop (at + length (c ∷ cs)) cells
 
 -- The `len` cells from `from` on.
 unfoldable pub cells_between : {C : Type 0} → ℕ → ℕ → List C → List C
@@ -20,10 +21,12 @@ cells_between from len cells = take len (drop from cells)
 
 -- None of the cells from one place up to another passes a test.
 abbrev pub NonePass : {C : Type 0} → (C → Bool) → C → ℕ → ℕ → List C → Type 0
-NonePass test empty from to cells = (k : ℕ) → from ≤ k → k < to → test (get_or cells k empty) ≡ false
+NonePass test empty from to cells =
+    (k : ℕ) → from ≤ k → k < to → test (get_or cells k empty) ≡ false
 
 -- The first place from `at` on whose cell passes a test, or the number of cells, where none does.
-pub record IsFirstFrom {C : Type 0} (test : C → Bool) (empty : C) (at : ℕ) (cells : List C) (place : ℕ) : Type 0 where
+pub record IsFirstFrom {C : Type 0} (test : C → Bool) (empty : C) (at : ℕ) (cells : List C)
+    (place : ℕ) : Type 0 where
   pub from : at ≤ place
   pub within : place ≤ length cells
   pub before : NonePass test empty at place cells

@@ -25,7 +25,8 @@ abbrev pub ArePieces : {O : Type 0} → (O → ℕ) → List (Piece O) → Type 
 ArePieces reach pieces = All (IsPiece reach) pieces
 
 -- A piece that has the cells of two others.
-pub record IsBoth {O : Type 0} (advanced : O → ℕ → O) (reach : O → ℕ) (first second both : Piece O) : Type 0 where
+pub record IsBoth {O : Type 0} (advanced : O → ℕ → O) (reach : O → ℕ)
+    (first second both : Piece O) : Type 0 where
   pub cells : cells_in advanced both ≡ cells_in advanced first ++ cells_in advanced second
   pub len : both.len ≡ first.len + second.len
   pub reaches : IsReached reach both
@@ -40,14 +41,17 @@ pieces_at pieces at = record { pieces = pieces; at = at }
 
 -- A piece was put in at the place of the old pieces, or joined to the one before it: before the
 -- place of the new ones stand those that stood before it, and the piece itself.
-pub record IsAdded {O : Type 0} (advanced : O → ℕ → O) (reach : O → ℕ) (old : PiecesAt O) (piece : Piece O) (new : PiecesAt O) : Type 0 where
-  pub front : all_cells advanced (take new.at new.pieces) ≡ all_cells advanced (take old.at old.pieces) ++ cells_in advanced piece
+pub record IsAdded {O : Type 0} (advanced : O → ℕ → O) (reach : O → ℕ) (old : PiecesAt O)
+    (piece : Piece O) (new : PiecesAt O) : Type 0 where
+  pub front : all_cells advanced (take new.at new.pieces)
+      ≡ all_cells advanced (take old.at old.pieces) ++ cells_in advanced piece
   pub back : drop new.at new.pieces ≡ drop old.at old.pieces
   pub within : new.at ≤ length new.pieces
   pub pieces : ArePieces reach new.pieces
 
 -- Pieces that have some cells.
-pub record HaveCells {O : Type 0} (advanced : O → ℕ → O) (reach : O → ℕ) (cells : List (Option O)) (pieces : List (Piece O)) : Type 0 where
+pub record HaveCells {O : Type 0} (advanced : O → ℕ → O) (reach : O → ℕ) (cells : List (Option O))
+    (pieces : List (Piece O)) : Type 0 where
   pub are : all_cells advanced pieces ≡ cells
   pub each : ArePieces reach pieces
 
@@ -56,6 +60,7 @@ abbrev pub overwritten : {C : Type 0} → ℕ → List C → List C → List C
 overwritten at new cells = take at cells ++ new ++ drop (at + length new) cells
 
 -- A tree that is one piece.
-pub record IsOnly {O : Type 0} (advanced : O → ℕ → O) (reach : O → ℕ) (tree : Seen O) (piece : Piece O) : Type 0 where
+pub record IsOnly {O : Type 0} (advanced : O → ℕ → O) (reach : O → ℕ) (tree : Seen O)
+    (piece : Piece O) : Type 0 where
   pub cells : cells_in advanced piece ≡ tree.cells
   pub good : IsPiece reach piece

@@ -12,7 +12,8 @@ pub record AreKidsOf {O : Type 0} (tree : Seen O) (high : ℕ) (kids : List (See
   pub are : joined kids ≡ tree.cells
 
 -- The pieces that a tree has.
-pub record ArePiecesOf {O : Type 0} (advanced : O → ℕ → O) (reach : O → ℕ) (tree : Seen O) (pieces : List (Piece O)) : Type 0 where
+pub record ArePiecesOf {O : Type 0} (advanced : O → ℕ → O) (reach : O → ℕ) (tree : Seen O)
+    (pieces : List (Piece O)) : Type 0 where
   pub have : HaveCells advanced reach tree.cells pieces
   pub height : tree.height ≡ 1
   pub some : 0 < length tree.cells

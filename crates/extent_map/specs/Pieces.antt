@@ -28,19 +28,25 @@ have_foreign foreign cells = list_any (foreign_cell foreign) cells
 
 -- A call of `next` where the cells `left` are left: it gives the piece that they begin with, of a
 -- cell at least, and leaves the others, or there are none.
-abbrev pub TakesPiece : {O : Type 0} → (O → ℕ → O) → (O → ℕ) → List (Option O) → Option (Option O × ℕ) → List (Option O) → Type 0
-TakesPiece advanced reach left given rest = MatchOption given ((left ≡ []) × (rest ≡ [])) (λ piece. (0 < piece.1) × IfSome piece.0 (λ origin. piece.1 ≤ reach origin) × (left ≡ piece_cells advanced piece.0 piece.1 ++ rest))
+abbrev pub TakesPiece : {O : Type 0} → (O → ℕ → O) → (O → ℕ) → List (Option O)
+    → Option (Option O × ℕ) → List (Option O) → Type 0
+TakesPiece advanced reach left given rest =
+    MatchOption given ((left ≡ []) × (rest ≡ []))
+    (λ piece. (0 < piece.1) × IfSome piece.0 (λ origin. piece.1 ≤ reach origin)
+    × (left ≡ piece_cells advanced piece.0 piece.1 ++ rest))
 
 -- A run of `len` cells goes on in one of `more` cells from `next`: both are one run, which its
 -- origin reaches.
-pub record RunsOn {O : Type 0} (advanced : O → ℕ → O) (reach : O → ℕ) (origin : O) (len : ℕ) (next : O) (more : ℕ) : Type 0 where
+pub record RunsOn {O : Type 0} (advanced : O → ℕ → O) (reach : O → ℕ) (origin : O) (len : ℕ)
+    (next : O) (more : ℕ) : Type 0 where
   pub follows : next ≡ advanced origin len
   pub reaches : len + more ≤ reach origin
 
 -- Two pieces that are one.
 abbrev pub AreOne : {O : Type 0} → (O → ℕ → O) → (O → ℕ) → Option O → ℕ → Option O → ℕ → Type 0
 AreOne advanced reach None len None more = Unit {0}
-AreOne advanced reach (Some origin) len (Some next) more = RunsOn advanced reach origin len next more
+AreOne advanced reach (Some origin) len (Some next) more =
+    RunsOn advanced reach origin len next more
 AreOne advanced reach None len (Some next) more = ⊥
 AreOne advanced reach (Some origin) len None more = ⊥
 

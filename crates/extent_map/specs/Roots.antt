@@ -16,7 +16,8 @@ IsRoot advanced reach (One piece) = IsPiece reach piece × (piece.len < 2 ^ 63)
 IsRoot advanced reach (Many tree) = length tree.cells < 2 ^ 63
 
 -- A piece that the cells are, with those of another put in at their end, which is `at`.
-pub record IsPut {O : Type 0} (advanced : O → ℕ → O) (reach : O → ℕ) (cells : List (Option O)) (at : ℕ) (piece both : Piece O) : Type 0 where
+pub record IsPut {O : Type 0} (advanced : O → ℕ → O) (reach : O → ℕ) (cells : List (Option O))
+    (at : ℕ) (piece both : Piece O) : Type 0 where
   pub end : length cells ≡ at
   pub cells_are : cells_in advanced both ≡ cells ++ cells_in advanced piece
   pub len : both.len ≡ at + piece.len

@@ -25,7 +25,8 @@ abbrev pub AreKids : {O : Type 0} → ℕ → List (Seen O) → Type 0
 AreKids steps kids = All (IsKid steps) kids
 
 -- What one tree or two of one height have: the second may be of no height, and then has no cells.
-pub record IsTwo {O : Type 0} (cells : List (Option O)) (steps : ℕ) (first second : Seen O) : Type 0 where
+pub record IsTwo {O : Type 0} (cells : List (Option O)) (steps : ℕ)
+    (first second : Seen O) : Type 0 where
   pub are : first.cells ++ second.cells ≡ cells
   pub height : first.height ≡ steps
   pub same : 0 < second.height → second.height ≡ steps
@@ -62,7 +63,8 @@ abbrev pub filled : {O : Type 0} → Seen O → List (Seen O)
 filled tree = some_of tree.height tree
 
 -- A tree was taken out of some, in whose place there is another.
-pub record IsTaken {O : Type 0} (old : List (Seen O)) (index : ℕ) (taken : Seen O) (new : List (Seen O)) : Type 0 where
+pub record IsTaken {O : Type 0} (old : List (Seen O)) (index : ℕ) (taken : Seen O)
+    (new : List (Seen O)) : Type 0 where
   pub value : taken ≡ slice_index_or old index taken
   pub before : take index new ≡ take index old
   pub after : drop (index + 1) new ≡ drop (index + 1) old

@@ -28,8 +28,10 @@ says_foreign (Fork height foreign len kids) = foreign
 -- The cells of a tree and its height.
 abbrev pub seen : {O : Type 0} → (O → ℕ → O) → Shape O → Seen O
 seen advanced Empty = record { cells = []; height = 0 }
-seen advanced (Leaf foreign len pieces) = record { cells = all_cells advanced pieces.value.items; height = 1 }
-seen advanced (Fork height foreign len kids) = record { cells = joined kids.value.items; height = height }
+seen advanced (Leaf foreign len pieces) =
+    record { cells = all_cells advanced pieces.value.items; height = 1 }
+seen advanced (Fork height foreign len kids) =
+    record { cells = joined kids.value.items; height = height }
 
 -- What a leaf keeps: its pieces have cells, which are counted.
 pub record IsLeaf {O : Type 0} (reach : O → ℕ) (len : ℕ) (pieces : List (Piece O)) : Type 0 where
@@ -44,6 +46,7 @@ HasParts reach (Leaf foreign len pieces) = IsLeaf reach len pieces.value.items
 HasParts reach (Fork height foreign len kids) = IsFork height len kids.value.items
 
 -- What holds of a tree.
-pub record IsTree {O : Type 0} (advanced : O → ℕ → O) (foreign : O → Bool) (reach : O → ℕ) (tree : Shape O) : Type 0 where
+pub record IsTree {O : Type 0} (advanced : O → ℕ → O) (foreign : O → Bool) (reach : O → ℕ)
+    (tree : Shape O) : Type 0 where
   pub parts : HasParts reach tree
   pub says : says_foreign tree ≡ have_foreign foreign (seen advanced tree).cells

@@ -32,7 +32,18 @@ pub record IsHeld (roomy : Bool) (size from filled : ℕ) (room : List ℕ) : Ty
 
 -- A file that was opened. Nothing is gathered, and no memory is taken.
 abbrev pub opened : (size : ℕ) (writable fresh : Bool) → FileState
-opened size writable fresh = record { size = size; from = 0; gathered = []; roomy = false; broken = false; writable = writable; fresh = fresh; faults = 0; moment = 0 }
+opened size writable fresh =
+    record {
+      size = size;
+      from = 0;
+      gathered = [];
+      roomy = false;
+      broken = false;
+      writable = writable;
+      fresh = fresh;
+      faults = 0;
+      moment = 0;
+    }
 
 -- One more, up to the greatest u64.
 abbrev pub one_more : ℕ → ℕ
@@ -81,14 +92,25 @@ broken_down d = record d { broken = true }
 
 -- So many bytes at a place follow those that are gathered, and there is room for them.
 abbrev pub follows : ℕ → ℕ → FileState → Bool
-follows at count d = nat_lt 0 (length d.gathered) && (at == d.from + length d.gathered) && nat_le (length d.gathered + count) (2 ^ 20)
+follows at count d =
+    nat_lt 0 (length d.gathered) && (at == d.from + length d.gathered)
+    && nat_le (length d.gathered + count) (2 ^ 20)
 
 -- After a write: the piece is gathered behind the others where it follows them, it is gathered
 -- alone where it does not, and where it is longer than 1 MiB or there is no room it is sent.
 abbrev pub after_write : ℕ → List ℕ → FileState → FileState
 after_write at piece d =
-    if follows at (length piece) d then record d { size = max d.size (at + length piece); gathered = d.gathered ++ piece }
-    else if (d.roomy && nat_le (length piece) (2 ^ 20)) then record d { size = max d.size (at + length piece); from = at; gathered = piece }
+    if follows at
+    (length piece) d then record d {
+      size = max d.size (at + length piece);
+      gathered = d.gathered ++ piece;
+    }
+    else if (d.roomy
+    && nat_le (length piece) (2 ^ 20)) then record d {
+      size = max d.size (at + length piece);
+      from = at;
+      gathered = piece;
+    }
     else record d { size = max d.size (at + length piece); from = 0; gathered = [] }
 
 -- A call failed, and nothing is tried from then on.

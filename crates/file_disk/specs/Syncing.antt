@@ -14,4 +14,5 @@ needs_no_sync writable kind = false
 
 -- The answer to a sync says that all is stable.
 abbrev pub IsStable : {T : Type 0} (writable : Bool) → Result T Error → Type 0
-IsStable writable answer = IsOk answer ⊎ IsErrAnd answer (λ error. needs_no_sync writable (error_kind error) ≡ true)
+IsStable writable answer =
+    IsOk answer ⊎ IsErrAnd answer (λ error. needs_no_sync writable (error_kind error) ≡ true)

@@ -10,4 +10,5 @@ then_reading items r = record { items = items ++ r.items; end = r.end }
 -- All that the files are read as is these items, then what is left of the file with this number,
 -- then the files after it. Before the first file nothing is left of a file with the number 0.
 abbrev pub IsAhead : List (List ℕ) → List Item → Reading → ℕ → List (List ℕ) → Type 0
-IsAhead files items left number after = input files ≡ then_reading items (joined left (input_from (number + 1) after))
+IsAhead files items left number after =
+    input files ≡ then_reading items (joined left (input_from (number + 1) after))

@@ -51,7 +51,8 @@ uuid_in (Some head) = head.key.uuid ∷ []
 -- Uuids, and then those of others that are not among them yet.
 abbrev pub joined_by : List (List ℕ) → List (List ℕ) → List (List ℕ)
 joined_by known [] = known
-joined_by known (uuid ∷ uuids) = joined_by (if is_among known uuid then known else (known ++ uuid ∷ [])) uuids
+joined_by known (uuid ∷ uuids) =
+    joined_by (if is_among known uuid then known else (known ++ uuid ∷ [])) uuids
 
 -- The uuids of the keys that a command names, and that commands name.
 abbrev pub uuids_named : Command → List (List ℕ)
@@ -77,7 +78,8 @@ with_version now version = record now { version = if version == 2 then 2 else no
 
 -- After a command of a stream of this version.
 abbrev pub after_command : Surveyed → ℕ → Command → Surveyed
-after_command now version command = with_version (with_named (with_head now (head_of command)) (uuids_named command)) version
+after_command now version command =
+    with_version (with_named (with_head now (head_of command)) (uuids_named command)) version
 
 -- The same where the command was made only if it is a head or names a key.
 abbrev pub seen_head : Option made.Command → Option Head
@@ -89,7 +91,8 @@ seen_named None = []
 seen_named (Some command) = uuids_named (meaning_of command)
 
 abbrev pub after_glance : Surveyed → ℕ → Option made.Command → Surveyed
-after_glance now version mention = with_version (with_named (with_head now (seen_head mention)) (seen_named mention)) version
+after_glance now version mention =
+    with_version (with_named (with_head now (seen_head mention)) (seen_named mention)) version
 
 -- After items.
 abbrev pub after_items : Surveyed → List Item → Surveyed
@@ -102,7 +105,9 @@ after_items now items = record {
 
 -- Each item has a version that is read, which can say its command.
 abbrev pub AreReadable : List Item → Type 0
-AreReadable items = AllByRecursion (λ item. CanWrite item.version item.command × (is_version item.version ≡ true)) items
+AreReadable items =
+    AllByRecursion
+    (λ item. CanWrite item.version item.command × (is_version item.version ≡ true)) items
 
 -- ---- one file
 
@@ -113,7 +118,8 @@ EndIs false ending = (verdict : reading.Verdict) × (ending ≡ Faulty verdict)
 
 -- All commands of a file were read, up to its end or to a fault, and it is not too long. What is
 -- known is what they say with what is said in front of the file.
-pub record FileRead (file : ℕ) (said : Override) (whole : Bool) (old new : Surveyed) (bytes : List ℕ) : Type 0 where
+pub record FileRead (file : ℕ) (said : Override) (whole : Bool) (old new : Surveyed)
+    (bytes : List ℕ) : Type 0 where
   pub items : List Item
   pub ending : reading.Ending
   pub read : reads file bytes ≡ record { items = items; end = ending }
@@ -144,7 +150,8 @@ FileEnd file said old new (Err outcome) bytes = FileStop file outcome bytes
 pub record AllRead (names : Overrides) (seen : Surveyed) (files : List (List ℕ)) : Type 0 where
   pub last : seen.last ≡ last_head (heads (overridden names (input files)).items)
   pub parts : seen.parts ≡ part_uuids (overridden names (input files)).items
-  pub named : seen.named ≡ joined_by [] (all_uuids_named (commands_of (overridden names (input files)).items))
+  pub named : seen.named
+      ≡ joined_by [] (all_uuids_named (commands_of (overridden names (input files)).items))
   pub version : seen.version ≡ version_of (overridden names (input files)).items
   pub writable : AreReadable (overridden names (input files)).items
   pub fits : too_long files ≡ None

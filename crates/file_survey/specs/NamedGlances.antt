@@ -11,6 +11,11 @@ use Rattle.send_model.specs.Overridden.{Override, command_as}
 -- it can say of the other.
 pub record IsMeantGlance (said : Override) (old new : Glance) : Type 0 where
   pub version : new.version ≡ old.version
-  pub mention : option_map meaning_of new.mention ≡ option_map (command_as said) (option_map meaning_of old.mention)
-  pub writable : (version : ℕ) → IfSome old.mention (λ command. IsWritable version (meaning_of command)) → IfSome new.mention (λ command. IsWritable version (meaning_of command))
-  pub can_write : (version : ℕ) → is_version version ≡ true → IfSome old.mention (λ command. CanWrite version (meaning_of command)) → IfSome new.mention (λ command. CanWrite version (meaning_of command))
+  pub mention : option_map meaning_of new.mention
+      ≡ option_map (command_as said) (option_map meaning_of old.mention)
+  pub writable : (version : ℕ)
+      → IfSome old.mention (λ command. IsWritable version (meaning_of command))
+      → IfSome new.mention (λ command. IsWritable version (meaning_of command))
+  pub can_write : (version : ℕ) → is_version version ≡ true
+      → IfSome old.mention (λ command. CanWrite version (meaning_of command))
+      → IfSome new.mention (λ command. CanWrite version (meaning_of command))

@@ -21,5 +21,6 @@ says_uuid uuid word = if is_name_word word then false else has_uuid uuid (given_
 -- nothing if there are none.
 pub record IsSaid (words : List (List ℕ)) (said : Override) : Type 0 where
   pub name : is_some said.name ≡ list_any is_name_word words
-  pub parents : (uuid : List ℕ) → is_among (uuids_of said.parents) uuid ≡ list_any (says_uuid uuid) words
+  pub parents : (uuid : List ℕ)
+      → is_among (uuids_of said.parents) uuid ≡ list_any (says_uuid uuid) words
   pub nothing : says_nothing said ≡ (length words == 0)

@@ -52,7 +52,8 @@ pub record IsBehind (header : Header) (bodies : List (List ℕ)) (log : LogState
   pub lengths_fit : AllByRecursion IsShort bodies
 
 -- The bytes go on behind the groups that were read, and all of them are stable.
-pub record Reads (header : Header) (bodies : List (List ℕ)) (log : LogState) (seen : List ℕ) (pending : Pending) : Type 0 where
+pub record Reads (header : Header) (bodies : List (List ℕ)) (log : LogState) (seen : List ℕ)
+    (pending : Pending) : Type 0 where
   pub behind : IsBehind header bodies log
   pub stage : log.stage ≡ Reading
   pub rest : List ℕ
@@ -61,7 +62,8 @@ pub record Reads (header : Header) (bodies : List (List ℕ)) (log : LogState) (
 
 -- Behind the groups stands a closed gate, and every image that a crash may leave has the groups and
 -- this gate.
-pub record Rests (header : Header) (bodies : List (List ℕ)) (log : LogState) (seen : List ℕ) (pending : Pending) : Type 0 where
+pub record Rests (header : Header) (bodies : List (List ℕ)) (log : LogState) (seen : List ℕ)
+    (pending : Pending) : Type 0 where
   pub behind : IsBehind header bodies log
   pub gate : ℕ
   pub closed : gate ≢ 1
@@ -71,7 +73,8 @@ pub record Rests (header : Header) (bodies : List (List ℕ)) (log : LogState) (
 
 -- So too while a group is in progress into which these bytes were put, behind eight bytes for its
 -- length. The log keeps their checksum.
-pub record Grows (header : Header) (bodies : List (List ℕ)) (body : List ℕ) (log : LogState) (seen : List ℕ) (pending : Pending) : Type 0 where
+pub record Grows (header : Header) (bodies : List (List ℕ)) (body : List ℕ) (log : LogState)
+    (seen : List ℕ) (pending : Pending) : Type 0 where
   pub behind : IsBehind header bodies log
   pub sum : log.sum ≡ crc_of 0 body
   pub gate : ℕ
@@ -83,16 +86,19 @@ pub record Grows (header : Header) (bodies : List (List ℕ)) (body : List ℕ) 
 
 -- A group with this body stands whole behind its closed gate, with a closed gate behind it, and all
 -- is stable.
-pub record IsReady (header : Header) (bodies : List (List ℕ)) (body : List ℕ) (log : LogState) (seen : List ℕ) (pending : Pending) : Type 0 where
+pub record IsReady (header : Header) (bodies : List (List ℕ)) (body : List ℕ) (log : LogState)
+    (seen : List ℕ) (pending : Pending) : Type 0 where
   pub behind : IsBehind header bodies log
   pub gate : ℕ
   pub closed : gate ≢ 1
   pub short : IsShort body
-  pub bytes : seen ≡ front_of header bodies ++ gate ∷ (to_le_bytes w64 (length body) ++ body ++ 0 ∷ [])
+  pub bytes : seen ≡ front_of header bodies
+      ++ gate ∷ (to_le_bytes w64 (length body) ++ body ++ 0 ∷ [])
   pub stable : pending ≡ settled seen
 
 -- One group more was read, and this is its place.
-pub record IsNext (header : Header) (bodies : List (List ℕ)) (log : LogState) (seen : List ℕ) (pending : Pending) (place : GroupPlace) : Type 0 where
+pub record IsNext (header : Header) (bodies : List (List ℕ)) (log : LogState) (seen : List ℕ)
+    (pending : Pending) (place : GroupPlace) : Type 0 where
   pub body : List ℕ
   pub reads : Reads header (bodies ++ body ∷ []) log seen pending
   pub group : place.number ≡ length bodies + 1
@@ -108,7 +114,9 @@ Finds header bodies log seen pending (Some place) = IsNext header bodies log see
 -- the next number.
 abbrev pub GoesOn : ℕ → LogState → LogState → Option GroupPlace → Type 0
 GoesOn len old new None = (new ≡ resting old) × IsAtRest len new
-GoesOn len old new (Some place) = (new ≡ past_group old place.len) × IsReading len new × (place.number ≡ old.groups + 1) × (place.at ≡ old.gate + 9)
+GoesOn len old new (Some place) =
+    (new ≡ past_group old place.len) × IsReading len new × (place.number ≡ old.groups + 1)
+    × (place.at ≡ old.gate + 9)
 
 -- A log that has just been opened on these bytes.
 pub record IsOpened (seen : List ℕ) (pending : Pending) (log : LogState) : Type 0 where

@@ -20,11 +20,14 @@ pub record IsAhead (end size : ℕ) (ahead : Ahead) : Type 0 where
 
 -- It keeps all bytes that are left of the group, or a frame is whole in it.
 abbrev pub IsFilled : ℕ → Ahead → Type 0
-IsFilled end ahead = (end ≤ ahead.at + (ahead.have - ahead.used)) ⊎ (greatest_frame ≤ ahead.have - ahead.used)
+IsFilled end ahead =
+    (end ≤ ahead.at + (ahead.have - ahead.used)) ⊎ (greatest_frame ≤ ahead.have - ahead.used)
 
 -- The bytes that it keeps are those that stand at the place on a disk where a read gives these.
 abbrev pub Shows : List ℕ → List ℕ → Ahead → Type 0
-Shows seen window ahead = take (ahead.have - ahead.used) (drop ahead.used window) ≡ take (ahead.have - ahead.used) (drop ahead.at seen)
+Shows seen window ahead =
+    take (ahead.have - ahead.used) (drop ahead.used window)
+    ≡ take (ahead.have - ahead.used) (drop ahead.at seen)
 
 -- It was filled up, from the same place on.
 pub record Refills (end size : ℕ) (before now : Ahead) : Type 0 where

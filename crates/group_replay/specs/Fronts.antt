@@ -13,5 +13,7 @@ pub record IsInFront (version : ℕ) (bytes : List ℕ) (c : meant.Command) (len
 
 -- The command in front was found, or there is none.
 abbrev pub FindsFront : ℕ → List ℕ → Option Front → Type 0
-FindsFront version bytes None = (c : meant.Command) (rest : List ℕ) → IsSpellable version c → bytes ≡ canonical version c ++ rest → ⊥
+FindsFront version bytes None =
+    (c : meant.Command) (rest : List ℕ) → IsSpellable version c
+    → bytes ≡ canonical version c ++ rest → ⊥
 FindsFront version bytes (Some front) = IsInFront version bytes (meaning_of front.command) front.len

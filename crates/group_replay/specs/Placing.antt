@@ -20,6 +20,7 @@ by_none o = ap place_at (add-zero o.at)
 pub is_left : (o : Place) (j k : ℕ) → j + k ≤ reach_of o → k ≤ reach_of (further o j)
 is_left o j k h = omega (arith, h)
 
-pub by_both : (o : Place) (j k : ℕ) → j + k ≤ reach_of o → further (further o j) k ≡ further o (j + k)
+pub by_both : (o : Place) (j k : ℕ) → j + k ≤ reach_of o
+    → further (further o j) k ≡ further o (j + k)
 unfolding place_at
 by_both o j k h = ap place_at (add_assoc o.at j k)

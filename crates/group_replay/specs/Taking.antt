@@ -17,7 +17,8 @@ abbrev pub open_state : Store (Option Place) → Part (Option Place) → State (
 open_state store part = record { store = store; part = Some part }
 
 -- A group of this format has the body, which stands at a place, and makes one store of another.
-pub record MakesGroup (format at : ℕ) (body : List ℕ) (old new : Store (Option Place)) : Type 0 where
+pub record MakesGroup (format at : ℕ) (body : List ℕ)
+    (old new : Store (Option Place)) : Type 0 where
   pub group : Group
   pub lawful : IsGroup format group
   pub body_is : body_bytes group ≡ body
@@ -25,7 +26,9 @@ pub record MakesGroup (format at : ℕ) (body : List ℕ) (old new : Store (Opti
 
 -- No group with the body makes anything of the store.
 abbrev pub IsAtFault : ℕ → ℕ → List ℕ → Store (Option Place) → Type 0
-IsAtFault format at body old = (group : Group) → IsGroup format group → body_bytes group ≡ body → made None as_runs at old group.content ≡ None
+IsAtFault format at body old =
+    (group : Group) → IsGroup format group → body_bytes group ≡ body
+    → made None as_runs at old group.content ≡ None
 
 -- A group was taken, or it is at fault.
 abbrev pub TakesGroup : ℕ → ℕ → List ℕ → Store (Option Place) → Store (Option Place) → Bool → Type 0

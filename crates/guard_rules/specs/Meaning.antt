@@ -26,4 +26,5 @@ used_at guards place = (slice_index_or guards place (new_guard meant.NoDevices))
 -- The place of the first guard that refuses a command, or none: with what that guard has counted,
 -- which the command does not change, this is the refusal of the definitions.
 abbrev pub IsRefusedAt : List Guard → List Guard → Command → Option ℕ → Type 0
-IsRefusedAt before now command result = guarded before command ≡ option_map (λ place. Guarded place (used_at now place)) result
+IsRefusedAt before now command result =
+    guarded before command ≡ option_map (λ place. Guarded place (used_at now place)) result

@@ -14,7 +14,11 @@ CountsFaults before now (Err e) = now ≡ one_more before
 
 -- The counts of faults and of ends: one more of those for which bytes are lost, and the same of the
 -- others.
-abbrev pub CountsLosses : (faults_before faults_now ends_before ends_now : ℕ) → Result (Unit {0}) Lost → Type 0
-CountsLosses faults_before faults_now ends_before ends_now (Ok done) = (faults_now ≡ faults_before) × (ends_now ≡ ends_before)
-CountsLosses faults_before faults_now ends_before ends_now (Err lost.Failed) = (faults_now ≡ one_more faults_before) × (ends_now ≡ ends_before)
-CountsLosses faults_before faults_now ends_before ends_now (Err (lost.Ended place)) = (faults_now ≡ faults_before) × (ends_now ≡ one_more ends_before)
+abbrev pub CountsLosses : (faults_before faults_now ends_before ends_now : ℕ)
+    → Result (Unit {0}) Lost → Type 0
+CountsLosses faults_before faults_now ends_before ends_now (Ok done) =
+    (faults_now ≡ faults_before) × (ends_now ≡ ends_before)
+CountsLosses faults_before faults_now ends_before ends_now (Err lost.Failed) =
+    (faults_now ≡ one_more faults_before) × (ends_now ≡ ends_before)
+CountsLosses faults_before faults_now ends_before ends_now (Err (lost.Ended place)) =
+    (faults_now ≡ faults_before) × (ends_now ≡ one_more ends_before)

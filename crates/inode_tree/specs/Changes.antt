@@ -16,5 +16,7 @@ changed (made.Mode mode) inode = record inode { mode = mode % 0o10_000 }
 changed (made.Owner uid gid) inode = record inode { uid = uid; gid = gid }
 changed (made.Times atime mtime) inode = with_times (time_of atime) (time_of mtime) inode
 changed (made.Flags flags) inode = record inode { flags = flags }
-changed (made.SetXattr name value) inode = record inode { xattrs = with_value bytes_cmp name.now value.now inode.xattrs }
-changed (made.RemoveXattr name) inode = record inode { xattrs = without bytes_cmp name.now inode.xattrs }
+changed (made.SetXattr name value) inode =
+    record inode { xattrs = with_value bytes_cmp name.now value.now inode.xattrs }
+changed (made.RemoveXattr name) inode =
+    record inode { xattrs = without bytes_cmp name.now inode.xattrs }

@@ -16,11 +16,15 @@ FindsSpot answer said = Reads spot_of answer said
 
 -- The name at a place goes, if an inode that is no directory stands there.
 abbrev pub unlink_at : {C : Type 0} → Spot → Subvolume C → Result (Subvolume C) meant.Refusal
-unlink_at place s = found (at_spot s place) meant.NoEntry >>= λ ino. refuse_if (is_directory s ino) meant.IsDirectory >> Ok (take_name place ino s)
+unlink_at place s =
+    found (at_spot s place) meant.NoEntry >>= λ ino. refuse_if
+    (is_directory s ino) meant.IsDirectory >> Ok (take_name place ino s)
 
 -- One step of a walk: what a name in a directory leads to.
 abbrev pub one_step : {C : Type 0} → Subvolume C → ℕ → List ℕ → Result ℕ meant.Refusal
-one_step s directory name = require (is_directory s directory) meant.NotDirectory >> found (named s directory name) meant.NoEntry
+one_step s directory name =
+    require (is_directory s directory) meant.NotDirectory >> found
+    (named s directory name) meant.NoEntry
 
 -- The last of some names.
 abbrev pub last_of : List ℕ → List (List ℕ) → List ℕ
@@ -28,9 +32,12 @@ last_of name [] = name
 last_of name (further ∷ rest) = last_of further rest
 
 -- The place that names give from a directory on: the walk of all but the last.
-abbrev pub spot_from : {C : Type 0} → Subvolume C → ℕ → List ℕ → List (List ℕ) → Result Spot meant.Refusal
+abbrev pub spot_from : {C : Type 0} → Subvolume C → ℕ → List ℕ → List (List ℕ)
+    → Result Spot meant.Refusal
 spot_from s directory name rest =
-    walk_names s directory (all_but_last (name ∷ rest)) >>= λ there. require (is_directory s there) meant.NotDirectory >> Ok (record { directory = there; name = last_of name rest })
+    walk_names s directory (all_but_last (name ∷ rest)) >>= λ there. require
+    (is_directory s there) meant.NotDirectory >> Ok
+    (record { directory = there; name = last_of name rest })
 
 -- A name moves to a place where nothing stood, or nothing changes. What stood there is given, and
 -- the value with the name moved.

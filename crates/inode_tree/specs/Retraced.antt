@@ -9,12 +9,14 @@ use Rattle.send_model.specs.Provenance.{inode_with, with_cells}
 
 -- The same inode with one run of the old size of its contents, from the start of its number.
 abbrev pub retraced_inode : {C P : Type 0} → (P → ℕ → P) → (ℕ → P) → ℕ → Inode C → Inode (Option P)
-retraced_inode advanced start ino inode = inode_with inode (run_cells advanced (start ino) (length inode.cells))
+retraced_inode advanced start ino inode =
+    inode_with inode (run_cells advanced (start ino) (length inode.cells))
 
 -- The same inodes, names and next number; the contents of each inode are one run of their old size
 -- from the start of its number.
 abbrev pub retraced : {C P : Type 0} → (P → ℕ → P) → (ℕ → P) → Subvolume C → Subvolume (Option P)
-retraced advanced start s = with_cells (λ ino cells. run_cells advanced (start ino) (length cells)) s
+retraced advanced start s =
+    with_cells (λ ino cells. run_cells advanced (start ino) (length cells)) s
 
 -- A start reaches over the contents of an inode, which never have more than 2^63 - 1 cells.
 abbrev pub IsReached : {C P : Type 0} → (P → ℕ) → (ℕ → P) → ℕ × Inode C → Type 0

@@ -53,12 +53,14 @@ IsRemembered false s last = Unit {0}
 -- The front and its directory are remembered, or as before, or forgotten.
 abbrev pub LearnsFront : Walked → Walked → List ℕ → ℕ → Type 0
 LearnsFront old new front directory =
-    (new ≡ record old { front = front; directory = directory }) ⊎ ((new ≡ old) ⊎ (new ≡ record old { front = []; directory = root }))
+    (new ≡ record old { front = front; directory = directory })
+    ⊎ ((new ≡ old) ⊎ (new ≡ record old { front = []; directory = root }))
 
 -- The path and its inode are remembered, or it is forgotten what the path leads to.
 abbrev pub LearnsPath : Walked → Walked → List ℕ → ℕ → Type 0
 LearnsPath old new path ino =
-    (new ≡ record old { path = path; ino = Some ino }) ⊎ (new ≡ record old { path = []; ino = None })
+    (new ≡ record old { path = path; ino = Some ino })
+    ⊎ (new ≡ record old { path = []; ino = None })
 
 -- A name goes or moves: what a path leads to is forgotten, and where the name was a directory's,
 -- the front is too.
@@ -81,6 +83,7 @@ spot_below s directory (name ∷ rest) = spot_from s directory name rest
 
 -- The names that are left of a path from a directory on give the place that the path names, or the
 -- path is refused.
-abbrev pub Begins : {C : Type 0} → Subvolume C → List ℕ → Result (ℕ × List (List ℕ)) Refusal → Type 0
+abbrev pub Begins : {C : Type 0} → Subvolume C → List ℕ → Result (ℕ × List (List ℕ)) Refusal
+    → Type 0
 Begins s path (Ok begin) = spot s path ≡ spot_below s begin.0 begin.1
 Begins s path (Err refusal) = spot s path ≡ Err (refusal_of refusal)

@@ -37,7 +37,8 @@ sources_with overrides files = overridden_sources overrides (sources files)
 -- memory, it stands as before an end, and where the output failed, it is cut.
 abbrev pub EndsOf : Request → Store ℕ → Sources → Outcome → List ℕ → Type 0
 EndsOf request base read outcome written =
-    EndsAs (due_of request base read) (EndSaysOf request base read) (StandsBeforeOf request base read) (StandsCutOf request base read) outcome written
+    EndsAs (due_of request base read) (EndSaysOf request base read)
+    (StandsBeforeOf request base read) (StandsCutOf request base read) outcome written
 
 -- What is given, or else the other.
 abbrev pub given_or : {T : Type 0} → T → Option T → T
@@ -48,6 +49,9 @@ given_or other (Some x) = x
 -- canonical form only where it is as it was.
 pub record IsOverridden (said : Override) (item new : Item) : Type 0 where
   pub meant : (file : ℕ) → item_of file new ≡ overridden_as said (item_of file item)
-  pub writable : (version : ℕ) → IsWritable version (meaning_of item.command) → IsWritable version (meaning_of new.command)
-  pub can_write : (version : ℕ) → is_version version ≡ true → CanWrite version (meaning_of item.command) → CanWrite version (meaning_of new.command)
-  pub frame : new.canonical ≡ true → (item.canonical ≡ true) × (meaning_of new.command ≡ meaning_of item.command)
+  pub writable : (version : ℕ) → IsWritable version (meaning_of item.command)
+      → IsWritable version (meaning_of new.command)
+  pub can_write : (version : ℕ) → is_version version ≡ true
+      → CanWrite version (meaning_of item.command) → CanWrite version (meaning_of new.command)
+  pub frame : new.canonical ≡ true
+      → (item.canonical ≡ true) × (meaning_of new.command ≡ meaning_of item.command)

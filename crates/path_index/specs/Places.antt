@@ -20,11 +20,13 @@ abbrev pub IsIndexOf : Map ℕ (List (ℕ × List ℕ)) → Map (ℕ × List ℕ
 IsIndexOf index names = (ino : ℕ) → links_at index ino ≡ places_of names ino
 
 -- The index of a lawful subvolume.
-pub record IsIndexed {C : Type 0} (s : Subvolume C) (index : Map ℕ (List (ℕ × List ℕ))) : Type 0 where
+pub record IsIndexed {C : Type 0} (s : Subvolume C)
+    (index : Map ℕ (List (ℕ × List ℕ))) : Type 0 where
   pub lawful : IsLawful s
   pub indexed : IsIndexOf index s.names
 
 -- An inode has one name more, and all others have the same.
-pub record IsOneMore (old new : Map ℕ (List (ℕ × List ℕ))) (ino : ℕ) (place : ℕ × List ℕ) : Type 0 where
+pub record IsOneMore (old new : Map ℕ (List (ℕ × List ℕ))) (ino : ℕ)
+    (place : ℕ × List ℕ) : Type 0 where
   pub here : links_at new ino ≡ links_at old ino ++ place ∷ []
   pub others : (other : ℕ) → (other ≡ ino → ⊥) → links_at new other ≡ links_at old other

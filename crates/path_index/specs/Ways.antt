@@ -11,7 +11,8 @@ pub record EndsAt {C : Type 0} (s : Subvolume C) (place : ℕ × List ℕ) (path
   pub leads : walk_names s root before ≡ Ok place.0
 
 -- There is just one such path, and it is the given one.
-pub record IsOnlyPath {C : Type 0} (s : Subvolume C) (place : ℕ × List ℕ) (path : List ℕ) : Type 0 where
+pub record IsOnlyPath {C : Type 0} (s : Subvolume C) (place : ℕ × List ℕ)
+    (path : List ℕ) : Type 0 where
   pub ends : EndsAt s place path
   pub only : (other : List ℕ) → EndsAt s place other → other ≡ path
 
@@ -26,5 +27,8 @@ WriteEnd s place (Some start) buffer = IsOnlyPath s place (drop start buffer)
 WriteEnd s place None buffer = (other : List ℕ) → EndsAt s place other → ⊥
 
 -- The lesser of the path that ends at a place and another; the other, where there is no such path.
-abbrev pub IsLesserBy : {C : Type 0} → Subvolume C → ℕ × List ℕ → Option (List ℕ) → Option (List ℕ) → Type 0
-IsLesserBy s place least next = ((path : List ℕ) × IsOnlyPath s place path × (next ≡ lesser path least)) ⊎ (((other : List ℕ) → EndsAt s place other → ⊥) × (next ≡ least))
+abbrev pub IsLesserBy : {C : Type 0} → Subvolume C → ℕ × List ℕ → Option (List ℕ) → Option (List ℕ)
+    → Type 0
+IsLesserBy s place least next =
+    ((path : List ℕ) × IsOnlyPath s place path × (next ≡ lesser path least))
+    ⊎ (((other : List ℕ) → EndsAt s place other → ⊥) × (next ≡ least))

@@ -25,7 +25,9 @@ StepsOn old new result = MatchOption (next_of old) ((result ≡ None) × (new �
 
 -- The first path of an inode, unless it is the one that was passed last.
 abbrev pub earlier : {C : Type 0} → Passed C → ℕ → Option (List ℕ)
-earlier p ino = if bytes_eq p.at (listed p.subvolume ino).first then None else Some (listed p.subvolume ino).first
+earlier p ino =
+    if bytes_eq p.at (listed p.subvolume ino).first then None else Some
+    (listed p.subvolume ino).first
 
 -- ---- what is kept
 
@@ -35,27 +37,40 @@ IsAfter path other = bytes_cmp path other ≡ Less
 
 -- Paths after one that was passed: each leads somewhere, and those of all entries of directories
 -- that were passed are there.
-pub record IsAhead {C : Type 0} (s : Subvolume C) (at : List ℕ) (ahead : Map (List ℕ) ℕ) : Type 0 where
+pub record IsAhead {C : Type 0} (s : Subvolume C) (at : List ℕ)
+    (ahead : Map (List ℕ) ℕ) : Type 0 where
   pub ordered : IsMap bytes_cmp ahead
-  pub leads : (path : List ℕ) (ino : ℕ) → value_at bytes_cmp path ahead ≡ Some ino → (walk s path ≡ Ok ino) × IsAfter at path
-  pub all : (front : List ℕ) (directory : ℕ) → walk s front ≡ Ok directory → (IsAfter at front → ⊥) → (path : List ℕ) (ino : ℕ)
-      → IsEntry s front directory path ino → IsAfter at path → value_at bytes_cmp path ahead ≡ Some ino
+  pub leads : (path : List ℕ) (ino : ℕ) → value_at bytes_cmp path ahead ≡ Some ino
+      → (walk s path ≡ Ok ino) × IsAfter at path
+  pub all : (front : List ℕ) (directory : ℕ) → walk s front ≡ Ok directory → (IsAfter at front → ⊥)
+      → (path : List ℕ) (ino : ℕ)
+      → IsEntry s front directory path ino → IsAfter at path
+      → value_at bytes_cmp path ahead ≡ Some ino
 
 -- The first paths of inodes, of all those at least that were passed and are no directories.
-pub record AreFirsts {C : Type 0} (s : Subvolume C) (at : List ℕ) (firsts : Map ℕ (List ℕ)) : Type 0 where
-  pub first : (ino : ℕ) (path : List ℕ) → value_at nat_cmp ino firsts ≡ Some path → first_path s ino ≡ Some path
-  pub all : (path : List ℕ) (ino : ℕ) → walk s path ≡ Ok ino → (IsAfter at path → ⊥) → is_directory s ino ≡ false → (f : List ℕ) × (value_at nat_cmp ino firsts ≡ Some f)
+pub record AreFirsts {C : Type 0} (s : Subvolume C) (at : List ℕ)
+    (firsts : Map ℕ (List ℕ)) : Type 0 where
+  pub first : (ino : ℕ) (path : List ℕ) → value_at nat_cmp ino firsts ≡ Some path
+      → first_path s ino ≡ Some path
+  pub all : (path : List ℕ) (ino : ℕ) → walk s path ≡ Ok ino → (IsAfter at path → ⊥)
+      → is_directory s ino ≡ false → (f : List ℕ) × (value_at nat_cmp ino firsts ≡ Some f)
 
 -- The path of an inode that is no directory is kept, if none was.
-pub record Learns {C : Type 0} (s : Subvolume C) (ino : ℕ) (path : List ℕ) (old new : Map ℕ (List ℕ)) : Type 0 where
-  pub kept : (other : ℕ) (known : List ℕ) → value_at nat_cmp other old ≡ Some known → value_at nat_cmp other new ≡ Some known
+pub record Learns {C : Type 0} (s : Subvolume C) (ino : ℕ) (path : List ℕ)
+    (old new : Map ℕ (List ℕ)) : Type 0 where
+  pub kept : (other : ℕ) (known : List ℕ) → value_at nat_cmp other old ≡ Some known
+      → value_at nat_cmp other new ≡ Some known
   pub only : (other : ℕ) (known : List ℕ) → value_at nat_cmp other new ≡ Some known
-      → (value_at nat_cmp other old ≡ Some known) ⊎ ((other ≡ ino) × (known ≡ path) × (value_at nat_cmp ino old ≡ None) × (is_directory s ino ≡ false))
+      → (value_at nat_cmp other old ≡ Some known)
+      ⊎ ((other ≡ ino) × (known ≡ path) × (value_at nat_cmp ino old ≡ None)
+      × (is_directory s ino ≡ false))
 
 abbrev pub IsKnown : {C : Type 0} → Subvolume C → ℕ → Map ℕ (List ℕ) → Type 0
-IsKnown s ino m = is_directory s ino ≡ false → (path : List ℕ) × (value_at nat_cmp ino m ≡ Some path)
+IsKnown s ino m =
+    is_directory s ino ≡ false → (path : List ℕ) × (value_at nat_cmp ino m ≡ Some path)
 
-pub record IsPassed {C : Type 0} (s : Subvolume C) (at : List ℕ) (ahead : Map (List ℕ) ℕ) (firsts : Map ℕ (List ℕ)) : Type 0 where
+pub record IsPassed {C : Type 0} (s : Subvolume C) (at : List ℕ) (ahead : Map (List ℕ) ℕ)
+    (firsts : Map ℕ (List ℕ)) : Type 0 where
   pub lawful : IsLawful s
   pub ahead_is : IsAhead s at ahead
   pub firsts_are : AreFirsts s at firsts

@@ -24,12 +24,17 @@ pub data Request : Type 0 where
 -- One to ten files, and a schedule of these.
 abbrev pub with_schedule : List ℕ → TurnFiles → Option Request
 with_schedule word turns = if are_turns turns
-    then elim (schedule_of (length turns.files) word) [ None ↦ None | Some schedule ↦ Some (TakeTurns 1 schedule turns) ]
+    then elim (schedule_of (length turns.files) word) [
+      | None ↦ None
+      | Some schedule ↦
+          Some (TakeTurns 1 schedule turns)
+    ]
     else None
 
 -- The store and the schedule are taken by their places.
 abbrev pub of_turns : List (List ℕ) → Option Request
-of_turns (store ∷ schedule ∷ words) = elim (turn_files words) [ None ↦ None | Some turns ↦ with_schedule schedule turns ]
+of_turns (store ∷ schedule ∷ words) =
+    elim (turn_files words) [ None ↦ None | Some turns ↦ with_schedule schedule turns ]
 of_turns (store ∷ []) = None
 of_turns [] = None
 
@@ -85,7 +90,8 @@ meant_at (TakeTurns store schedule turns) = []
 -- Whether each of these words means bytes; and the bytes that one means.
 abbrev pub are_meant : List ℕ → List (List ℕ) → Bool
 are_meant [] words = true
-are_meant (place ∷ places) words = is_some (meant_by (word_at words place)) && are_meant places words
+are_meant (place ∷ places) words =
+    is_some (meant_by (word_at words place)) && are_meant places words
 
 abbrev pub name_at : List (List ℕ) → ℕ → List ℕ
 name_at words place = name_meant (word_at words place)
@@ -93,7 +99,8 @@ name_at words place = name_meant (word_at words place)
 -- Words that are no files with their names, or that mean no bytes where a name or a path stands,
 -- mean nothing.
 abbrev pub words_stand : Request → List (List ℕ) → Bool
-words_stand request words = names_stand (request_named_at request) words && are_meant (meant_at request) words
+words_stand request words =
+    names_stand (request_named_at request) words && are_meant (meant_at request) words
 
 abbrev pub if_words_stand : List (List ℕ) → Option Request → Option Request
 if_words_stand words None = None

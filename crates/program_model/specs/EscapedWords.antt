@@ -24,7 +24,9 @@ byte_of (Some high) (Some low) = unless_plain (16 * high + low)
 
 -- The byte that a backslash, the letter x and two digits stand for.
 abbrev pub escape_of : (first second third fourth : ℕ) → Option ℕ
-escape_of first second third fourth = if (first == 0x5c) && (second == 0x78) then byte_of (hex_value third) (hex_value fourth) else None
+escape_of first second third fourth =
+    if (first == 0x5c)
+    && (second == 0x78) then byte_of (hex_value third) (hex_value fourth) else None
 
 -- A byte in front of others.
 abbrev pub onto : Option ℕ → Option (List ℕ) → Option (List ℕ)
@@ -43,7 +45,8 @@ unescaped (a ∷ []) = onto (plain_byte a) (Some [])
 unescaped (a ∷ b ∷ []) = onto (plain_byte a) (unescaped (b ∷ []))
 unescaped (a ∷ b ∷ c ∷ []) = onto (plain_byte a) (unescaped (b ∷ c ∷ []))
 unescaped (a ∷ b ∷ c ∷ d ∷ rest) =
-    if is_plain a then onto (Some a) (unescaped (b ∷ c ∷ d ∷ rest)) else onto (escape_of a b c d) (unescaped rest)
+    if is_plain a then onto (Some a) (unescaped (b ∷ c ∷ d ∷ rest)) else onto (escape_of a b c d)
+    (unescaped rest)
 
 -- ---- words
 

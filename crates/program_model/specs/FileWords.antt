@@ -34,7 +34,8 @@ is_parent_word word = bytes_eq (take 7 word) (codes "parent:")
 
 -- The word that says a parent: the UUID as `list` prints it, a colon, and the CTRANSID in decimal.
 abbrev pub parent_word : Key → List ℕ
-parent_word key = codes "parent:" ++ (hyphenated_text lower key.uuid ++ (codes ":" ++ decimal key.ctransid))
+parent_word key =
+    codes "parent:" ++ (hyphenated_text lower key.uuid ++ (codes ":" ++ decimal key.ctransid))
 
 -- The parent that a word says, which has to be spelled in just this way.
 abbrev pub if_spelled : List ℕ → Key → Option Key
@@ -42,10 +43,16 @@ if_spelled word key = if bytes_eq word (parent_word key) then Some key else None
 
 abbrev pub with_number : List ℕ → List ℕ → Option ℕ → Option Key
 with_number word uuid None = None
-with_number word uuid (Some ctransid) = if_spelled word (record { uuid = uuid; ctransid = ctransid })
+with_number word uuid (Some ctransid) =
+    if_spelled word (record { uuid = uuid; ctransid = ctransid })
 
 abbrev pub given_parent : List ℕ → Option Key
-given_parent word = elim (parsed (take 36 (drop 7 word))) [ None ↦ None | Some uuid ↦ with_number word uuid (number_word (drop 44 word)) ]
+given_parent word =
+    elim (parsed (take 36 (drop 7 word))) [
+      | None ↦ None
+      | Some uuid ↦
+          with_number word uuid (number_word (drop 44 word))
+    ]
 
 -- ---- what words say in front of a file
 
@@ -57,14 +64,19 @@ stands_in_front word = is_name_word word || is_parent_word word
 -- twice.
 abbrev pub name_too : Override → Option (List ℕ) → Option Override
 name_too said None = None
-name_too said (Some name) = if is_some said.name then None else Some (record said { name = Some name })
+name_too said (Some name) =
+    if is_some said.name then None else Some (record said { name = Some name })
 
 abbrev pub parent_too : Override → Option Key → Option Override
 parent_too said None = None
-parent_too said (Some key) = if is_among (uuids_of said.parents) key.uuid then None else Some (record said { parents = said.parents ++ key ∷ [] })
+parent_too said (Some key) =
+    if is_among (uuids_of said.parents) key.uuid then None else Some
+    (record said { parents = said.parents ++ key ∷ [] })
 
 abbrev pub said_too : Override → List ℕ → Option Override
-said_too said word = if is_name_word word then name_too said (given_name word) else parent_too said (given_parent word)
+said_too said word =
+    if is_name_word word then name_too said (given_name word) else parent_too said
+    (given_parent word)
 
 -- ---- files
 
@@ -79,7 +91,8 @@ no_files = record { files = []; overrides = [] }
 
 abbrev pub with_file : List ℕ → Override → Option GivenFiles → Option GivenFiles
 with_file file said None = None
-with_file file said (Some given) = Some (record { files = file ∷ given.files; overrides = said ∷ given.overrides })
+with_file file said (Some given) =
+    Some (record { files = file ∷ given.files; overrides = said ∷ given.overrides })
 
 -- Words that are files, with what is said in front of each, in any order; what is said in front of
 -- the first already is given. What stands in front of no file means nothing; nor does a second
@@ -139,12 +152,15 @@ names_stand (Some place) words = is_some (given_in (drop place words))
 
 -- Words of which none stands in front of a file are files, in their order, and nothing is said.
 abbrev pub PlainWordsAreFiles : Type 0
-PlainWordsAreFiles = (words : List (List ℕ)) → AllByRecursion (λ word. stands_in_front word ≡ false) words
+PlainWordsAreFiles =
+    (words : List (List ℕ)) → AllByRecursion (λ word. stands_in_front word ≡ false) words
     → given_in words ≡ Some (record { files = words; overrides = map (λ word. no_override) words })
 
 -- Words that stand give a file, if there are any.
 abbrev pub WordsGiveFiles : Type 0
-WordsGiveFiles = (words : List (List ℕ)) (given : GivenFiles) → words ≢ [] → given_in words ≡ Some given → given.files ≢ []
+WordsGiveFiles =
+    (words : List (List ℕ)) (given : GivenFiles) → words ≢ [] → given_in words ≡ Some given
+    → given.files ≢ []
 
 -- As much is said as there are files, or nothing for one; and what words of bytes say can be said
 -- in commands.
@@ -152,11 +168,14 @@ abbrev pub GivenAreAsMany : Type 0
 GivenAreAsMany = (words : List (List ℕ)) → length (overrides_in words) ≡ length (files_in words)
 
 abbrev pub GivenAreLawful : Type 0
-GivenAreLawful = (words : List (List ℕ)) → AllByRecursion IsBytes words → AreLawfulOverrides (overrides_in words)
+GivenAreLawful =
+    (words : List (List ℕ)) → AllByRecursion IsBytes words → AreLawfulOverrides (overrides_in words)
 
 -- Each parent can be said, and in one way.
 abbrev pub ParentsAreRead : Type 0
-ParentsAreRead = (key : Key) → length key.uuid ≡ 16 → IsBytes key.uuid → key.ctransid < 2 ^ 64 → given_parent (parent_word key) ≡ Some key
+ParentsAreRead =
+    (key : Key) → length key.uuid ≡ 16 → IsBytes key.uuid → key.ctransid < 2 ^ 64
+    → given_parent (parent_word key) ≡ Some key
 
 abbrev pub ReadIsSpelled : Type 0
 ReadIsSpelled = (word : List ℕ) (key : Key) → given_parent word ≡ Some key → word ≡ parent_word key

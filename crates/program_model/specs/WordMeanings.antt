@@ -39,64 +39,105 @@ NamesNoEntry (ScrubStore store) = ⊤
 
 -- They are answered as they are over the store.
 abbrev pub OthersAreStored : Type 0
-OthersAreStored = (request : stored_requests.Request) (words : List (List ℕ)) (image : List ℕ) (files : NamedFiles) (answer : Answer) (written left : List ℕ) → NamesNoEntry request
-    → Answers (OfStore request) (at_entry words image files) answer written left → stored.Answers request (at_entry words image files) answer written left
+OthersAreStored =
+    (request : stored_requests.Request) (words : List (List ℕ)) (image : List ℕ)
+    (files : NamedFiles) (answer : Answer) (written left : List ℕ) → NamesNoEntry request
+    → Answers (OfStore request) (at_entry words image files) answer written left
+    → stored.Answers request (at_entry words image files) answer written left
 
 -- ---- words with a name
 
 -- With status 0 `show`, `cat` and `drop` did theirs with the bytes that are meant.
 abbrev pub ShowIsOfMeant : Type 0
-ShowIsOfMeant = (place name : ℕ) (words : List (List ℕ)) (image : List ℕ) (files : NamedFiles) (store : Store ℕ) (written left : List ℕ) → StandsFor image store
-    → Answers (OfStore (ShowEntry place name)) (at_entry words image files) (OfAnyWord Done) written left → IsShown (name_at words name) store written × (left ≡ image)
+ShowIsOfMeant =
+    (place name : ℕ) (words : List (List ℕ)) (image : List ℕ) (files : NamedFiles) (store : Store ℕ)
+    (written left : List ℕ) → StandsFor image store
+    → Answers (OfStore (ShowEntry place name)) (at_entry words image files)
+    (OfAnyWord Done) written left → IsShown (name_at words name) store written × (left ≡ image)
 
 abbrev pub CatIsOfMeant : Type 0
-CatIsOfMeant = (place name path : ℕ) (words : List (List ℕ)) (image : List ℕ) (files : NamedFiles) (store : Store ℕ) (written left : List ℕ) → StandsFor image store
-    → Answers (OfStore (CatFile place name path)) (at_entry words image files) (OfAnyWord Done) written left
+CatIsOfMeant =
+    (place name path : ℕ) (words : List (List ℕ)) (image : List ℕ) (files : NamedFiles)
+    (store : Store ℕ) (written left : List ℕ) → StandsFor image store
+    → Answers (OfStore (CatFile place name path)) (at_entry words image files)
+    (OfAnyWord Done) written left
     → IsFileOf (name_at words name) (name_at words path) store written × (left ≡ image)
 
 abbrev pub DropIsOfMeant : Type 0
-DropIsOfMeant = (place name : ℕ) (words : List (List ℕ)) (image : List ℕ) (files : NamedFiles) (store : Store ℕ) (written left : List ℕ) → StandsFor image store
-    → Answers (OfStore (DropEntry place name)) (at_entry words image files) (OfAnyWord Done) written left
-    → ((next : Store ℕ) × IsWithout (name_at words name) store next × StandsFor left next) × (written ≡ [])
+DropIsOfMeant =
+    (place name : ℕ) (words : List (List ℕ)) (image : List ℕ) (files : NamedFiles) (store : Store ℕ)
+    (written left : List ℕ) → StandsFor image store
+    → Answers (OfStore (DropEntry place name)) (at_entry words image files)
+    (OfAnyWord Done) written left
+    → ((next : Store ℕ) × IsWithout (name_at words name) store next × StandsFor left next)
+    × (written ≡ [])
 
 -- What is missing are these bytes.
 abbrev pub MissingIsMeant : Type 0
-MissingIsMeant = (place name path : ℕ) (words : List (List ℕ)) (image : List ℕ) (files : NamedFiles) (store : Store ℕ) (what written left : List ℕ) → StandsFor image store
-    → (Answers (OfStore (ShowEntry place name)) (at_entry words image files) (Missing what) written left → what ≡ name_at words name)
-    × (Answers (OfStore (DropEntry place name)) (at_entry words image files) (Missing what) written left → what ≡ name_at words name)
-    × (Answers (OfStore (CatFile place name path)) (at_entry words image files) (Missing what) written left → (what ≡ name_at words name) ⊎ (what ≡ name_at words path))
+MissingIsMeant =
+    (place name path : ℕ) (words : List (List ℕ)) (image : List ℕ) (files : NamedFiles)
+    (store : Store ℕ) (what written left : List ℕ) → StandsFor image store
+    → (Answers (OfStore (ShowEntry place name)) (at_entry words image files)
+    (Missing what) written left → what ≡ name_at words name)
+    × (Answers (OfStore (DropEntry place name)) (at_entry words image files)
+    (Missing what) written left → what ≡ name_at words name)
+    × (Answers (OfStore (CatFile place name path)) (at_entry words image files)
+    (Missing what) written left → (what ≡ name_at words name) ⊎ (what ≡ name_at words path))
 
 -- With status 0 `send` wrote what is sent of the complete subvolume of that name, and `restore`
 -- what is restored.
 abbrev pub IsFormed : Form → (name : List ℕ) → Store (Option ℕ) → (written : List ℕ) → Type 0
-IsFormed form name store written = (found : Entry (Subvolume (Option ℕ)) × Subvolume (Option ℕ)) × (complete_named name store ≡ Some found) × (written ≡ form found.0.name found.0.key found.1)
+IsFormed form name store written =
+    (found : Entry (Subvolume (Option ℕ)) × Subvolume (Option ℕ))
+    × (complete_named name store ≡ Some found) × (written ≡ form found.0.name found.0.key found.1)
 
 abbrev pub SendIsOfMeant : Type 0
-SendIsOfMeant = (place name : ℕ) (words : List (List ℕ)) (image : List ℕ) (files : NamedFiles) (store : Store (Option ℕ)) (written left : List ℕ) → StandsHeld image store
-    → Answers (SendEntry place name) (at_entry words image files) (OfAnyWord Done) written left → IsFormed sent_stream (name_at words name) store written × (left ≡ image)
+SendIsOfMeant =
+    (place name : ℕ) (words : List (List ℕ)) (image : List ℕ) (files : NamedFiles)
+    (store : Store (Option ℕ)) (written left : List ℕ) → StandsHeld image store
+    → Answers (SendEntry place name) (at_entry words image files) (OfAnyWord Done) written left
+    → IsFormed sent_stream (name_at words name) store written × (left ≡ image)
 
 abbrev pub RestoreIsOfMeant : Type 0
-RestoreIsOfMeant = (place name : ℕ) (words : List (List ℕ)) (image : List ℕ) (files : NamedFiles) (store : Store (Option ℕ)) (written left : List ℕ) → StandsHeld image store
-    → Answers (RestoreEntry place name) (at_entry words image files) (OfAnyWord Done) written left → IsFormed restored_stream (name_at words name) store written × (left ≡ image)
+RestoreIsOfMeant =
+    (place name : ℕ) (words : List (List ℕ)) (image : List ℕ) (files : NamedFiles)
+    (store : Store (Option ℕ)) (written left : List ℕ) → StandsHeld image store
+    → Answers (RestoreEntry place name) (at_entry words image files) (OfAnyWord Done) written left
+    → IsFormed restored_stream (name_at words name) store written × (left ≡ image)
 
 -- They read no files.
 abbrev pub NoFilesAreSent : Type 0
-NoFilesAreSent = (place name : ℕ) (words : List (List ℕ)) (image : List ℕ) (files : NamedFiles) (written left : List ℕ)
-    → (Answers (SendEntry place name) (at_entry words image files) (OfAnyWord InputFault) written left → ⊥)
-    × (Answers (RestoreEntry place name) (at_entry words image files) (OfAnyWord InputFault) written left → ⊥)
+NoFilesAreSent =
+    (place name : ℕ) (words : List (List ℕ)) (image : List ℕ) (files : NamedFiles)
+    (written left : List ℕ)
+    → (Answers (SendEntry place name) (at_entry words image files)
+    (OfAnyWord InputFault) written left → ⊥)
+    × (Answers (RestoreEntry place name) (at_entry words image files)
+    (OfAnyWord InputFault) written left → ⊥)
 
 -- ---- files that take turns
 
 -- They are answered under all guards of their words, each with its share.
 abbrev pub TurnsHaveTheirGuards : Type 0
-TurnsHaveTheirGuards = (place : ℕ) (schedule : List ℕ) (turns : TurnFiles) (words : List (List ℕ)) (image : List ℕ) (files : NamedFiles) (answer : Answer) (written left : List ℕ)
+TurnsHaveTheirGuards =
+    (place : ℕ) (schedule : List ℕ) (turns : TurnFiles) (words : List (List ℕ)) (image : List ℕ)
+    (files : NamedFiles) (answer : Answer) (written left : List ℕ)
     → Answers (TakeTurns place schedule turns) (at_entry words image files) answer written left
-    → TurnsAnswer (in_turns schedule files.bytes (new_guards turns.guards) turns.shares) image answer written left
+    → TurnsAnswer
+    (in_turns schedule files.bytes
+    (new_guards turns.guards) turns.shares) image answer written left
 
 -- With status 0 all lines of all turns were written, and the image stands for the store that they
 -- leave.
 abbrev pub TurnsOfWordsAreDone : Type 0
-TurnsOfWordsAreDone = (place : ℕ) (schedule : List ℕ) (turns : TurnFiles) (words : List (List ℕ)) (image : List ℕ) (files : NamedFiles) (store : Store ℕ) (written left : List ℕ)
-    → AllByRecursion IsBytes files.bytes → StandsFor image store → Answers (TakeTurns place schedule turns) (at_entry words image files) (OfAnyWord Done) written left
-    → (written ≡ taken_lines (in_turns schedule files.bytes (new_guards turns.guards) turns.shares) store)
-    × StandsFor left (taken_turns (in_turns schedule files.bytes (new_guards turns.guards) turns.shares) store).store
+TurnsOfWordsAreDone =
+    (place : ℕ) (schedule : List ℕ) (turns : TurnFiles) (words : List (List ℕ)) (image : List ℕ)
+    (files : NamedFiles) (store : Store ℕ) (written left : List ℕ)
+    → AllByRecursion IsBytes files.bytes → StandsFor image store
+    → Answers (TakeTurns place schedule turns) (at_entry words image files)
+    (OfAnyWord Done) written left
+    → (written ≡ taken_lines
+    (in_turns schedule files.bytes (new_guards turns.guards) turns.shares) store)
+    × StandsFor left
+    (taken_turns
+    (in_turns schedule files.bytes (new_guards turns.guards) turns.shares) store).store

@@ -21,13 +21,22 @@ spot_in (Some spot) = Some (place_at spot)
 
 -- What a step says of the cells of contents from one place up to another.
 abbrev pub IsStep : (meant.Key → ℕ → Option ℕ) → List (Option Trace) → ℕ → ℕ → Step → Type 0
-IsStep ends contents at end (Carried spot len) = (0 < len) × (at + len ≤ end) × (cuts_between ends contents at end ≡ Run (place_at spot) len ∷ cuts_between ends contents (at + len) end)
-IsStep ends contents at end (Passed len) = (0 < len) × (at + len ≤ end) × (cuts_between ends contents at end ≡ join_cut (Rest at len) (cuts_between ends contents (at + len) end))
+IsStep ends contents at end (Carried spot len) =
+    (0 < len) × (at + len ≤ end)
+    × (cuts_between ends contents at end ≡ Run (place_at spot) len
+    ∷ cuts_between ends contents (at + len) end)
+IsStep ends contents at end (Passed len) =
+    (0 < len) × (at + len ≤ end)
+    × (cuts_between ends contents at end
+    ≡ join_cut (Rest at len) (cuts_between ends contents (at + len) end))
 
 -- What stands from one place up to another joins a stretch of other bytes before it, and what
 -- follows it does not.
 abbrev pub PassesTo : (meant.Key → ℕ → Option ℕ) → List (Option Trace) → ℕ → ℕ → ℕ → Type 0
-PassesTo ends contents start to end = (at len : ℕ) → join_cut (Rest at len) (cuts_between ends contents start end) ≡ Rest at (len + (to - start)) ∷ cuts_between ends contents to end
+PassesTo ends contents start to end =
+    (at len : ℕ)
+    → join_cut (Rest at len) (cuts_between ends contents start end) ≡ Rest at (len + (to - start))
+    ∷ cuts_between ends contents to end
 
 -- A range of some contents.
 pub record IsRange (contents : List (Option Trace)) (from to : ℕ) : Type 0 where
@@ -42,4 +51,5 @@ planned (Literal from len) = Rest from len
 -- A call of `next` gives the first of what is left, and leaves the others, or there is nothing
 -- left.
 abbrev pub TakesPlan : List Cut → Option Plan → List Cut → Type 0
-TakesPlan left given rest = MatchOption given ((left ≡ []) × (rest ≡ [])) (λ plan. left ≡ planned plan ∷ rest)
+TakesPlan left given rest =
+    MatchOption given ((left ≡ []) × (rest ≡ [])) (λ plan. left ≡ planned plan ∷ rest)

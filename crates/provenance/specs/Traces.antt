@@ -46,4 +46,6 @@ sized s = recelled (λ c. tt) s
 -- The cells of a traced subvolume have the places that provenance begins with for each complete
 -- subvolume of the same sizes.
 abbrev pub IsTracedTo : {C : Type 0} → meant.Key → Subvolume C → Subvolume (Option Trace) → Type 0
-IsTracedTo key sub traced = (s : Subvolume ℕ) → sized s ≡ sized sub → recelled place_in traced ≡ recelled (λ (c : Traced). c.place) (traced_subvolume key s)
+IsTracedTo key sub traced =
+    (s : Subvolume ℕ) → sized s ≡ sized sub
+    → recelled place_in traced ≡ recelled (λ (c : Traced). c.place) (traced_subvolume key s)

@@ -37,7 +37,8 @@ fault_counts inputs out disk = record { inputs = inputs; out = out; disk = disk 
 
 -- An object of the outside failed only where its count of faults rose.
 abbrev pub Caused : (before now : FaultCounts) → Received → Type 0
-Caused before now (how.Files outcome) = calls.Caused before.inputs now.inputs before.out now.out outcome
+Caused before now (how.Files outcome) =
+    calls.Caused before.inputs now.inputs before.out now.out outcome
 Caused before now how.StoreFault = Rose before.disk now.disk
 Caused before now (how.LogFull end wanted limit) = ⊤
 
@@ -56,9 +57,11 @@ IfClosed (Err (how.LogFull end wanted limit)) P = ⊤
 
 -- Its line was written, or a part of it where the output failed, and nothing where the store's disk
 -- did.
-abbrev pub WritesLine : List ℕ → Option (List ℕ) → Option (List ℕ) → ℕ → ℕ → Result (Unit {0}) Received → Type 0
+abbrev pub WritesLine : List ℕ → Option (List ℕ) → Option (List ℕ) → ℕ → ℕ
+    → Result (Unit {0}) Received → Type 0
 WritesLine line old new before now (Ok u) = Appends old new line
-WritesLine line old new before now (Err (how.Files outcome)) = (outcome ≡ ended.OutputFault) × Rose before now × AppendsPart old new line
+WritesLine line old new before now (Err (how.Files outcome)) =
+    (outcome ≡ ended.OutputFault) × Rose before now × AppendsPart old new line
 WritesLine line old new before now (Err how.StoreFault) = Appends old new []
 WritesLine line old new before now (Err (how.LogFull end wanted limit)) = ⊥
 
@@ -85,7 +88,10 @@ IsUsualLog (log.StoreThere size) = ⊥
 
 -- Why a call of the store stops at a command.
 abbrev pub ended_by : Item → StoreStop → Received
-ended_by item (stop.Refused refusal) = how.Files (ended.Refused (record { file = item.file; command = item.number; offset = item.offset; refusal = refusal }))
+ended_by item (stop.Refused refusal) =
+    how.Files
+    (ended.Refused
+    (record { file = item.file; command = item.number; offset = item.offset; refusal = refusal }))
 ended_by item stop.NoMemory = how.Files ended.NoMemory
 ended_by item (stop.Log why) = ended_log why
 
@@ -95,7 +101,8 @@ IsUsualStop stop.NoMemory = ⊤
 IsUsualStop (stop.Log why) = IsUsualLog why
 
 -- The verdict is that on an item, which is refused and leaves this.
-pub record IsRefusedWith {S : Type 0} (verdict : Verdict) (item : Item) (new : S) (after : After S) : Type 0 where
+pub record IsRefusedWith {S : Type 0} (verdict : Verdict) (item : Item) (new : S)
+    (after : After S) : Type 0 where
   pub refusal : meant.Refusal
   pub verdict_is : verdict_meant verdict ≡ verdict_of item refusal
   pub after_is : after ≡ record { state = new; refusal = Some refusal }
@@ -121,10 +128,12 @@ StepSays (Err (how.LogFull end wanted limit)) item new after = after.refusal ≡
 -- There is room for what an item puts at a place, and the next bytes come behind it; or there is no
 -- room.
 abbrev pub PiecesSay : Result (Unit {0}) Received → (limit at next : ℕ) → Item → Type 0
-PiecesSay (Ok u) limit at next item = (first_full limit (item_pieces at item) ≡ None) × (next ≡ end_behind at (item_pieces at item))
+PiecesSay (Ok u) limit at next item =
+    (first_full limit (item_pieces at item) ≡ None) × (next ≡ end_behind at (item_pieces at item))
 PiecesSay (Err (how.Files outcome)) limit at next item = ⊤
 PiecesSay (Err how.StoreFault) limit at next item = ⊤
-PiecesSay (Err (how.LogFull end wanted most)) limit at next item = first_full limit (item_pieces at item) ≡ Some (dues.LogFull end wanted most)
+PiecesSay (Err (how.LogFull end wanted most)) limit at next item =
+    first_full limit (item_pieces at item) ≡ Some (dues.LogFull end wanted most)
 
 -- The store can take the next command, unless its journal stopped or there was no memory.
 abbrev pub OutcomeReady : Outcome → ℕ → Option Opened → StoreState → Type 0
@@ -155,10 +164,12 @@ OutcomeWrites (ended.InputTooLong file) Sure line old new = Appends old new line
 OutcomeWrites (ended.TooMuch sum) Sure line old new = Appends old new line
 OutcomeWrites (ended.InputChanged file place) Sure line old new = Appends old new line
 
-abbrev pub ItemWrites : Result (Unit {0}) Received → Type 0 → List ℕ → Option (List ℕ) → Option (List ℕ) → Type 0
+abbrev pub ItemWrites : Result (Unit {0}) Received → Type 0 → List ℕ → Option (List ℕ)
+    → Option (List ℕ) → Type 0
 ItemWrites (Ok u) Sure line old new = Appends old new line
 ItemWrites (Err (how.Files outcome)) Sure line old new = OutcomeWrites outcome Sure line old new
-ItemWrites (Err how.StoreFault) Sure line old new = Appends old new [] ⊎ (Appends old new line × Sure)
+ItemWrites (Err how.StoreFault) Sure line old new =
+    Appends old new [] ⊎ (Appends old new line × Sure)
 ItemWrites (Err (how.LogFull end wanted limit)) Sure line old new = Appends old new line
 
 -- What a disk that tells has then: all groups of an item, or those that it completed, or those that
@@ -184,7 +195,8 @@ pub record GroupsBehind : Type 0 where
 abbrev pub groups_behind : (done full all : List Group) → Option Begun → GroupsBehind
 groups_behind done full all begun = record { done = done; full = full; all = all; begun = begun }
 
-abbrev pub KeepsSays : Result (Unit {0}) Received → (List Group → Option Begun → Type 0) → (List Group → Type 0) → GroupsBehind → Type 0
+abbrev pub KeepsSays : Result (Unit {0}) Received → (List Group → Option Begun → Type 0)
+    → (List Group → Type 0) → GroupsBehind → Type 0
 KeepsSays (Ok u) K L behind = K behind.all behind.begun
 KeepsSays (Err (how.Files outcome)) K L behind = OutcomeKeeps outcome K behind.done
 KeepsSays (Err how.StoreFault) K L behind = ⊤

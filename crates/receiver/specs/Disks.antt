@@ -26,12 +26,15 @@ pub record Shown : Type 0 where
   pub pending : Pending
 
 abbrev pub shown : {D : Type 0} → keeping.Ghosts D → D → StoreState → Shown
-shown ghosts disk store = record { store = store; seen = ghosts.seen disk; pending = ghosts.pending disk }
+shown ghosts disk store =
+    record { store = store; seen = ghosts.seen disk; pending = ghosts.pending disk }
 
 -- The commands of the open part are those that its Body would say now.
-pub record IsBuilt (header : Header) (groups : List Group) (begun : Begun) (current : Opened) (now : Shown) : Type 0 where
+pub record IsBuilt (header : Header) (groups : List Group) (begun : Begun) (current : Opened)
+    (now : Shown) : Type 0 where
   pub uuid : begun.uuid ≡ current.part.key.uuid
-  pub builds : Builds header groups (in_progress begun.version begun.commands current.part) now.store now.seen now.pending
+  pub builds : Builds header groups
+      (in_progress begun.version begun.commands current.part) now.store now.seen now.pending
 
 -- The disk has these groups, and so has each image that a crash may leave, whether or not a part is
 -- open.
@@ -42,9 +45,12 @@ Keeps header groups (Some begun) None now = ⊥
 Keeps header groups (Some begun) (Some current) now = IsBuilt header groups begun current now
 
 -- Behind an item it has the groups that the answer says.
-abbrev pub ItemKeeps : Result (Unit {0}) Received → Header → Option Opened → Shown → GroupsBehind → Type 0
+abbrev pub ItemKeeps : Result (Unit {0}) Received → Header → Option Opened → Shown → GroupsBehind
+    → Type 0
 ItemKeeps result header current now behind =
-    KeepsSays result (λ groups begun. Keeps header groups begun current now) (λ groups. (image : List ℕ) → IsImage now.pending image → HasThese header groups image) behind
+    KeepsSays result (λ groups begun. Keeps header groups begun current now)
+    (λ groups. (image : List ℕ) → IsImage now.pending image
+    → HasThese header groups image) behind
 
 -- An image has the groups that there were and the first of some others.
 pub record HasFront (header : Header) (groups due : List Group) (image : List ℕ) : Type 0 where
@@ -74,36 +80,56 @@ work disk store current = record { disk = disk; store = store; current = current
 
 -- A run of calls of a disk that tells: it has some groups more, and at each moment a crash leaves
 -- those that there were and the first of these.
-abbrev pub RunsOn : {D : Type 0} → keeping.Ghosts D → (old new : Work D) → Option Begun → List Group → Option Begun → Type 0
+abbrev pub RunsOn : {D : Type 0} → keeping.Ghosts D → (old new : Work D) → Option Begun → List Group
+    → Option Begun → Type 0
 RunsOn ghosts old new begun groups next =
-    ghosts.tells → (header : Header) (there : List Group) → Keeps header there begun old.current (shown ghosts old.disk old.store)
-    → Keeps header (there ++ groups) next new.current (shown ghosts new.disk new.store) × LeavesOnly ghosts.moment ghosts.left_since old.disk new.disk (HasFront header there groups)
+    ghosts.tells → (header : Header) (there : List Group)
+    → Keeps header there begun old.current (shown ghosts old.disk old.store)
+    → Keeps header (there ++ groups) next new.current (shown ghosts new.disk new.store)
+    × LeavesOnly ghosts.moment ghosts.left_since old.disk new.disk
+    (HasFront header there groups)
 
 -- At each moment it leaves those that there were and the first of some others.
-abbrev pub LeavesOn : {D : Type 0} → keeping.Ghosts D → Work D → D → Option Begun → List Group → Type 0
+abbrev pub LeavesOn : {D : Type 0} → keeping.Ghosts D → Work D → D → Option Begun → List Group
+    → Type 0
 LeavesOn ghosts old new begun due =
-    ghosts.tells → (header : Header) (there : List Group) → Keeps header there begun old.current (shown ghosts old.disk old.store) → LeavesOnly ghosts.moment ghosts.left_since old.disk new (HasFront header there due)
+    ghosts.tells → (header : Header) (there : List Group)
+    → Keeps header there begun old.current (shown ghosts old.disk old.store)
+    → LeavesOnly ghosts.moment ghosts.left_since old.disk new (HasFront header there due)
 
 -- The group of a head for which there is room at a place.
 abbrev pub marked : ℕ → ℕ → Command → List Group
-marked limit place command = elim (first_full limit (pieces_from place (9 ∷ (1 + length (canonical 1 command)) ∷ []))) [ Some full ↦ [] | None ↦ begun_by command ]
+marked limit place command =
+    elim (first_full limit
+    (pieces_from place (9 ∷ (1 + length (canonical 1 command)) ∷ []))) [
+      | Some full ↦ []
+      | None ↦
+          begun_by command
+    ]
 
 -- After some calls of a disk that tells each image that a crash may leave has the groups that there
 -- were, those that were completed, and the first of some others.
-abbrev pub HasNow : {D : Type 0} → keeping.Ghosts D → Work D → D → ℕ → (Option Begun → List Group) → List Group → Type 0
+abbrev pub HasNow : {D : Type 0} → keeping.Ghosts D → Work D → D → ℕ → (Option Begun → List Group)
+    → List Group → Type 0
 HasNow ghosts old new version done more =
-    ghosts.tells → (header : Header) (there : List Group) (begun : Option Begun) → HasVersion version begun → Keeps header there begun old.current (shown ghosts old.disk old.store)
-    → (image : List ℕ) → IsImage (ghosts.pending new) image → HasFront header (there ++ done begun) more image
+    ghosts.tells → (header : Header) (there : List Group) (begun : Option Begun)
+    → HasVersion version begun
+    → Keeps header there begun old.current (shown ghosts old.disk old.store)
+    → (image : List ℕ) → IsImage (ghosts.pending new) image
+    → HasFront header (there ++ done begun) more image
 
 -- ---- where receiving ends
 
 -- W holds of the groups behind those that were there: of these in each image that a crash may
 -- leave, or in the store, which can be used again.
 abbrev pub EachHas : Header → List Group → Pending → ((List Group → Type 0) → Type 0) → Type 0
-EachHas header there pending W = (image : List ℕ) → IsImage pending image → W (λ first. HasThese header (there ++ first) image)
+EachHas header there pending W =
+    (image : List ℕ) → IsImage pending image → W (λ first. HasThese header (there ++ first) image)
 
-abbrev pub StillKeeps : Header → List Group → Option Opened → Shown → ((List Group → Type 0) → Type 0) → Type 0
-StillKeeps header there current now W = W (λ first. (begun : Option Begun) × Keeps header (there ++ first) begun current now)
+abbrev pub StillKeeps : Header → List Group → Option Opened → Shown
+    → ((List Group → Type 0) → Type 0) → Type 0
+StillKeeps header there current now W =
+    W (λ first. (begun : Option Begun) × Keeps header (there ++ first) begun current now)
 
 -- What is said where the store can be used again, and what where it may not.
 abbrev pub OutcomeLeaves : Outcome → (usable spent : Type 0) → Type 0
@@ -121,13 +147,18 @@ EndLeaves (how.Files outcome) usable spent = OutcomeLeaves outcome usable spent
 EndLeaves how.StoreFault usable spent = spent
 EndLeaves (how.LogFull end wanted limit) usable spent = spent
 
-abbrev pub EndHas : Received → Header → List Group → Option Opened → Shown → ((List Group → Type 0) → Type 0) → Type 0
-EndHas why header there current now W = EndLeaves why (StillKeeps header there current now W) (EachHas header there now.pending W)
+abbrev pub EndHas : Received → Header → List Group → Option Opened → Shown
+    → ((List Group → Type 0) → Type 0) → Type 0
+EndHas why header there current now W =
+    EndLeaves why (StillKeeps header there current now W) (EachHas header there now.pending W)
 
 -- A run of calls of a disk that tells, which ends early.
-abbrev pub StopsOn : {D : Type 0} → keeping.Ghosts D → (old new : Work D) → Received → ((List Group → Type 0) → Type 0) → Type 0
+abbrev pub StopsOn : {D : Type 0} → keeping.Ghosts D → (old new : Work D) → Received
+    → ((List Group → Type 0) → Type 0) → Type 0
 StopsOn ghosts old new why W =
-    ghosts.tells → (header : Header) (there : List Group) → Keeps header there None old.current (shown ghosts old.disk old.store) → EndHas why header there new.current (shown ghosts new.disk new.store) W
+    ghosts.tells → (header : Header) (there : List Group)
+    → Keeps header there None old.current (shown ghosts old.disk old.store)
+    → EndHas why header there new.current (shown ghosts new.disk new.store) W
 
 -- What a disk says of a run of calls: where all was taken, at each moment, and where it ended
 -- early.
@@ -138,4 +169,9 @@ pub record DiskSays : Type 1 where
 
 -- Where no part was open before the run.
 abbrev pub disk_says : {D : Type 0} → keeping.Ghosts D → (old new : Work D) → DiskSays
-disk_says ghosts old new = record { runs = RunsOn ghosts old new None; leaves = LeavesOn ghosts old new.disk None; stops = StopsOn ghosts old new }
+disk_says ghosts old new =
+    record {
+      runs = RunsOn ghosts old new None;
+      leaves = LeavesOn ghosts old new.disk None;
+      stops = StopsOn ghosts old new;
+    }

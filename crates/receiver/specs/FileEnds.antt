@@ -15,7 +15,8 @@ use Rattle.receiver.specs.Running.{Start, Spot, IsAt, Leads, Stops, IsLeft}
 
 -- What is read of a file, with what is said in front of it.
 abbrev pub read_with : Override → Limited → Limited
-read_with override read = record { items = map (overridden_as override) read.items; stop = read.stop }
+read_with override read =
+    record { items = map (overridden_as override) read.items; stop = read.stop }
 
 -- What is read of a file, and what is read of the others if that is all of it.
 abbrev pub then_others : Limited → Limited → Limited
@@ -36,7 +37,8 @@ reached store before now = record { store = store; before = before; now = now }
 
 -- All commands that were read are taken, and no part is open behind them. K says what a disk that
 -- tells has then.
-pub record Taken (from : Start) (input : Limited) (guards : List Guard) (new : Reached) (K : List Group → Option Begun → Type 0) : Type 0 where
+pub record Taken (from : Start) (input : Limited) (guards : List Guard) (new : Reached)
+    (K : List Group → Option Begun → Type 0) : Type 0 where
   pub items : List Item
   pub read : input ≡ read_whole items
   pub now : Spot
@@ -50,20 +52,25 @@ pub record Taken (from : Start) (input : Limited) (guards : List Guard) (new : R
 
 -- Receiving ends in a file, whatever files follow it. M says what a crash leaves of some groups,
 -- and J what a disk that tells has then.
-pub record FileStopped (from : Start) (input : Limited) (new : Reached) (M : List Group → Type 0) (J : ((List Group → Type 0) → Type 0) → Type 0) (why : Received) : Type 0 where
+pub record FileStopped (from : Start) (input : Limited) (new : Reached) (M : List Group → Type 0)
+    (J : ((List Group → Type 0) → Type 0) → Type 0) (why : Received) : Type 0 where
   pub lines : List ℕ
   pub wrote : Appends new.before new.now lines
   pub stops : (more : Limited) → Stops why from (then_others input more) lines new.store.core
-  pub moments : (more : Limited) → M (groups_from from.spot.watched from.spot.begun (then_others input more).items)
+  pub moments : (more : Limited)
+      → M (groups_from from.spot.watched from.spot.begun (then_others input more).items)
   pub disk : (more : Limited) → J (λ H. IsLeft why from (then_others input more) lines H)
 
 -- How receiving what was read of a file ends.
-abbrev pub FileEnds : Start → Limited → List Guard → Reached → DiskSays → Result (Unit {0}) Received → Type 0
+abbrev pub FileEnds : Start → Limited → List Guard → Reached → DiskSays → Result (Unit {0}) Received
+    → Type 0
 FileEnds from input guards new disk (Ok u) = Taken from input guards new disk.runs
-FileEnds from input guards new disk (Err why) = FileStopped from input new disk.leaves (disk.stops why) why
+FileEnds from input guards new disk (Err why) =
+    FileStopped from input new disk.leaves (disk.stops why) why
 
 -- Receiving ends in one of the files.
-pub record AllStopped (from : Start) (input : Limited) (new : Reached) (M : List Group → Type 0) (J : ((List Group → Type 0) → Type 0) → Type 0) (why : Received) : Type 0 where
+pub record AllStopped (from : Start) (input : Limited) (new : Reached) (M : List Group → Type 0)
+    (J : ((List Group → Type 0) → Type 0) → Type 0) (why : Received) : Type 0 where
   pub lines : List ℕ
   pub wrote : Appends new.before new.now lines
   pub stops : Stops why from input lines new.store.core
@@ -71,6 +78,8 @@ pub record AllStopped (from : Start) (input : Limited) (new : Reached) (M : List
   pub disk : J (λ H. IsLeft why from input lines H)
 
 -- How receiving what was read of all files ends.
-abbrev pub AllEnds : Start → Limited → List Guard → Reached → DiskSays → Result (Unit {0}) Received → Type 0
+abbrev pub AllEnds : Start → Limited → List Guard → Reached → DiskSays → Result (Unit {0}) Received
+    → Type 0
 AllEnds from input guards new disk (Ok u) = Taken from input guards new disk.runs
-AllEnds from input guards new disk (Err why) = AllStopped from input new disk.leaves (disk.stops why) why
+AllEnds from input guards new disk (Err why) =
+    AllStopped from input new disk.leaves (disk.stops why) why

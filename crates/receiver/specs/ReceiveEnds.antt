@@ -35,28 +35,39 @@ pub record ToReceive : Type 0 where
   pub files : NamedFiles
 
 abbrev pub to_receive : (limit gate : ℕ) → Store ℕ → List Guard → NamedFiles → ToReceive
-to_receive limit gate base guards files = record { limit = limit; gate = gate; base = base; guards = guards; files = files }
+to_receive limit gate base guards files =
+    record { limit = limit; gate = gate; base = base; guards = guards; files = files }
 
 module _ (task : ToReceive) where
   -- This answer is due, and the lines of the parts that are complete were written.
   abbrev pub IsDue : Due → List ℕ → Type 0
-  IsDue due written = (receive_due task.limit task.gate task.base task.guards task.files ≡ due) × (written ≡ lines_behind task.base (receive_left task.limit task.gate task.base task.guards task.files))
+  IsDue due written =
+      (receive_due task.limit task.gate task.base task.guards task.files ≡ due)
+      × (written
+      ≡ lines_behind task.base (receive_left task.limit task.gate task.base task.guards task.files))
 
   -- And the store has what is left, but for what the cells carry.
   abbrev pub IsDueLeft : Due → Store (Option Place) → List ℕ → Type 0
-  IsDueLeft due core written = IsDue due written × HaveSameShape core (receive_left task.limit task.gate task.base task.guards task.files)
+  IsDueLeft due core written =
+      IsDue due written
+      × HaveSameShape core (receive_left task.limit task.gate task.base task.guards task.files)
 
   -- So many lines stand in front of all that receiving prints.
   abbrev pub IsFront : (written unwritten : List ℕ) → Type 0
-  IsFront written unwritten = lines_behind task.base (received 0 byte_cells task.base task.guards (read_of task.files).limited.items).state.state.store ≡ written ++ unwritten
+  IsFront written unwritten =
+      lines_behind task.base
+      (received 0 byte_cells task.base task.guards
+      (read_of task.files).limited.items).state.state.store ≡ written ++ unwritten
 
   abbrev pub OutcomeEnds : Outcome → Store (Option Place) → List ℕ → Type 0
   OutcomeEnds ended.Done core written = IsDueLeft (Ends DoneWhole) core written
-  OutcomeEnds (ended.Refused verdict) core written = IsDueLeft (Ends (RefusedAt (verdict_meant verdict))) core written
+  OutcomeEnds (ended.Refused verdict) core written =
+      IsDueLeft (Ends (RefusedAt (verdict_meant verdict))) core written
   OutcomeEnds (ended.InputTooLong file) core written = IsDueLeft (Ends (TooLong file)) core written
   OutcomeEnds ended.InputFault core written = (unwritten : List ℕ) × IsFront written unwritten
   OutcomeEnds ended.NoMemory core written = (unwritten : List ℕ) × IsFront written unwritten
-  OutcomeEnds ended.OutputFault core written = (unwritten : List ℕ) × IsFront written unwritten × (0 < length unwritten)
+  OutcomeEnds ended.OutputFault core written =
+      (unwritten : List ℕ) × IsFront written unwritten × (0 < length unwritten)
   OutcomeEnds (ended.TooMuch sum) core written = ⊥
   OutcomeEnds (ended.InputChanged file place) core written = ⊥
 
@@ -65,7 +76,8 @@ module _ (task : ToReceive) where
   abbrev pub ReceiveEnds : Received → Store (Option Place) → List ℕ → Type 0
   ReceiveEnds (how.Files outcome) core written = OutcomeEnds outcome core written
   ReceiveEnds how.StoreFault core written = (unwritten : List ℕ) × IsFront written unwritten
-  ReceiveEnds (how.LogFull end wanted most) core written = IsDue (dues.LogFull end wanted most) written
+  ReceiveEnds (how.LogFull end wanted most) core written =
+      IsDue (dues.LogFull end wanted most) written
 
 -- Where all was done, a count is as it was.
 abbrev pub SteadyIfReceived : (before now : ℕ) → Received → Type 0
@@ -91,12 +103,16 @@ module _ (task : ToReceive) where
     pub made : (place : ℕ) → made_all 0 as_bytes place task.base first ≡ Some now
     pub unwritten : List ℕ
     pub printed : lines_behind task.base now ≡ written ++ unwritten
-    pub left : IfDecided why (now ≡ receive_left task.limit task.gate task.base task.guards task.files)
+    pub left : IfDecided why
+        (now ≡ receive_left task.limit task.gate task.base task.guards task.files)
     pub whole : IfAllRead why (more ≡ [])
 
 -- Behind the groups that a disk that tells had it has some more, of which W holds: with the store,
 -- which can be used again, or in each image that a crash may leave.
-abbrev pub LeavesMore : (tells : Type 0) → (old new : Shown) → Received → ((List Group → Type 0) → Type 0) → Type 0
+abbrev pub LeavesMore : (tells : Type 0) → (old new : Shown) → Received
+    → ((List Group → Type 0) → Type 0) → Type 0
 LeavesMore tells old new why W =
-    tells → (header : Header) (groups : List Group) → Holds header groups old.store old.seen old.pending
-    → EndLeaves why (W (λ first. Holds header (groups ++ first) new.store new.seen new.pending)) (EachHas header groups new.pending W)
+    tells → (header : Header) (groups : List Group)
+    → Holds header groups old.store old.seen old.pending
+    → EndLeaves why (W (λ first. Holds header (groups ++ first) new.store new.seen new.pending))
+    (EachHas header groups new.pending W)

@@ -35,13 +35,19 @@ pub record Spot : Type 0 where
 
 -- Before the first item.
 abbrev pub first_spot : ℕ → Store ℕ → List Guard → Spot
-first_spot gate base guards = record { watched = record { guards = guards; state = start_of base }; place = gate; begun = None }
+first_spot gate base guards =
+    record {
+      watched = record { guards = guards; state = start_of base };
+      place = gate;
+      begun = None;
+    }
 
 abbrev pub without_cells : Watched (State ℕ) → Followed
 without_cells w = record { guards = w.guards; state = recelled_state (λ _. tt) w.state }
 
 -- The guards and the store are there, but for what the cells carry.
-pub record IsAt (spot : Spot) (guards : List Guard) (store : StoreState) (current : Option Opened) : Type 0 where
+pub record IsAt (spot : Spot) (guards : List Guard) (store : StoreState)
+    (current : Option Opened) : Type 0 where
   pub seen : without_cells spot.watched ≡ beside guards (blank_of store current)
   pub place : spot.place ≡ place_of store current
 
@@ -56,49 +62,75 @@ abbrev pub start : ℕ → Store ℕ → Spot → Start
 start limit base spot = record { limit = limit; base = base; spot = spot }
 
 -- What was due from the first spot on is due from the second on, behind these groups and lines.
-pub record Leads (from : Start) (new : Spot) (items : List Item) (groups : List Group) (lines : List ℕ) : Type 0 where
-  pub due : (rest : List Item) → receive_from from.limit from.spot.place from.spot.watched (items ++ rest) ≡ receive_from from.limit new.place new.watched rest
-  pub left : (rest : List Item) → left_from from.limit from.spot.place from.spot.watched (items ++ rest) ≡ left_from from.limit new.place new.watched rest
-  pub ran : (rest : List Item) → run_by byte_step from.spot.watched (items ++ rest) ≡ run_by byte_step new.watched rest
-  pub written : (rest : List Item) → groups_from from.spot.watched from.spot.begun (items ++ rest) ≡ groups ++ groups_from new.watched new.begun rest
-  pub printed : lines_behind from.base new.watched.state.store ≡ lines_behind from.base from.spot.watched.state.store ++ lines
+pub record Leads (from : Start) (new : Spot) (items : List Item) (groups : List Group)
+    (lines : List ℕ) : Type 0 where
+  pub due : (rest : List Item)
+      → receive_from from.limit from.spot.place from.spot.watched (items ++ rest)
+      ≡ receive_from from.limit new.place new.watched rest
+  pub left : (rest : List Item)
+      → left_from from.limit from.spot.place from.spot.watched (items ++ rest)
+      ≡ left_from from.limit new.place new.watched rest
+  pub ran : (rest : List Item)
+      → run_by byte_step from.spot.watched (items ++ rest) ≡ run_by byte_step new.watched rest
+  pub written : (rest : List Item)
+      → groups_from from.spot.watched from.spot.begun (items ++ rest) ≡ groups
+      ++ groups_from new.watched new.begun rest
+  pub printed : lines_behind from.base new.watched.state.store
+      ≡ lines_behind from.base from.spot.watched.state.store ++ lines
   pub on : IsOn from.base new.watched.state.store new.watched.state.part
 
 -- ---- how it ends
 
 -- The answer that is due from a spot on.
 abbrev pub due_from : ℕ → Spot → Limited → Due
-due_from limit spot read = or_due (receive_from limit spot.place spot.watched read.items) (Ends (stop_due read.stop))
+due_from limit spot read =
+    or_due (receive_from limit spot.place spot.watched read.items) (Ends (stop_due read.stop))
 
 -- The lines are those of the parts that are complete in the store that is left.
 abbrev pub LinesLeft : ℕ → Store ℕ → Spot → Limited → List ℕ → Type 0
-LinesLeft limit base spot read lines = lines_behind base (left_from limit spot.place spot.watched read.items) ≡ lines_behind base spot.watched.state.store ++ lines
+LinesLeft limit base spot read lines =
+    lines_behind base (left_from limit spot.place spot.watched read.items)
+    ≡ lines_behind base spot.watched.state.store ++ lines
 
 -- The store has what is left, but for what the cells carry.
 abbrev pub CoreLeft : ℕ → Spot → Limited → Store (Option Place) → Type 0
-CoreLeft limit spot read core = blank core ≡ blank (left_from limit spot.place spot.watched read.items)
+CoreLeft limit spot read core =
+    blank core ≡ blank (left_from limit spot.place spot.watched read.items)
 
 -- The lines, and others behind them, are those of the parts that are complete once all was
 -- received.
-pub record IsLineFront (base : Store ℕ) (spot : Spot) (read : Limited) (lines unwritten : List ℕ) : Type 0 where
-  pub all : lines_behind base (run_by byte_step spot.watched read.items).state.state.store ≡ lines_behind base spot.watched.state.store ++ (lines ++ unwritten)
+pub record IsLineFront (base : Store ℕ) (spot : Spot) (read : Limited)
+    (lines unwritten : List ℕ) : Type 0 where
+  pub all : lines_behind base (run_by byte_step spot.watched read.items).state.state.store
+      ≡ lines_behind base spot.watched.state.store ++ (lines ++ unwritten)
 
 -- Where receiving ends early, the answer is due, with the lines that are due; or some of the lines
 -- were written.
 abbrev pub OutcomeStops : Outcome → Start → Limited → List ℕ → Store (Option Place) → Type 0
-OutcomeStops (ended.Refused verdict) from read lines core = (due_from from.limit from.spot read ≡ Ends (RefusedAt (verdict_meant verdict))) × LinesLeft from.limit from.base from.spot read lines × CoreLeft from.limit from.spot read core
-OutcomeStops (ended.InputTooLong file) from read lines core = (due_from from.limit from.spot read ≡ Ends (TooLong file)) × LinesLeft from.limit from.base from.spot read lines × CoreLeft from.limit from.spot read core
-OutcomeStops ended.InputFault from read lines core = (unwritten : List ℕ) × IsLineFront from.base from.spot read lines unwritten
-OutcomeStops ended.NoMemory from read lines core = (unwritten : List ℕ) × IsLineFront from.base from.spot read lines unwritten
-OutcomeStops ended.OutputFault from read lines core = (unwritten : List ℕ) × IsLineFront from.base from.spot read lines unwritten × (0 < length unwritten)
+OutcomeStops (ended.Refused verdict) from read lines core =
+    (due_from from.limit from.spot read ≡ Ends (RefusedAt (verdict_meant verdict)))
+    × LinesLeft from.limit from.base from.spot read lines × CoreLeft from.limit from.spot read core
+OutcomeStops (ended.InputTooLong file) from read lines core =
+    (due_from from.limit from.spot read ≡ Ends (TooLong file))
+    × LinesLeft from.limit from.base from.spot read lines × CoreLeft from.limit from.spot read core
+OutcomeStops ended.InputFault from read lines core =
+    (unwritten : List ℕ) × IsLineFront from.base from.spot read lines unwritten
+OutcomeStops ended.NoMemory from read lines core =
+    (unwritten : List ℕ) × IsLineFront from.base from.spot read lines unwritten
+OutcomeStops ended.OutputFault from read lines core =
+    (unwritten : List ℕ) × IsLineFront from.base from.spot read lines unwritten
+    × (0 < length unwritten)
 OutcomeStops ended.Done from read lines core = ⊥
 OutcomeStops (ended.TooMuch sum) from read lines core = ⊥
 OutcomeStops (ended.InputChanged file place) from read lines core = ⊥
 
 abbrev pub Stops : Received → Start → Limited → List ℕ → Store (Option Place) → Type 0
 Stops (how.Files outcome) from read lines core = OutcomeStops outcome from read lines core
-Stops how.StoreFault from read lines core = (unwritten : List ℕ) × IsLineFront from.base from.spot read lines unwritten
-Stops (how.LogFull end wanted most) from read lines core = (due_from from.limit from.spot read ≡ LogFull end wanted most) × LinesLeft from.limit from.base from.spot read lines
+Stops how.StoreFault from read lines core =
+    (unwritten : List ℕ) × IsLineFront from.base from.spot read lines unwritten
+Stops (how.LogFull end wanted most) from read lines core =
+    (due_from from.limit from.spot read ≡ LogFull end wanted most)
+    × LinesLeft from.limit from.base from.spot read lines
 
 -- ---- the groups that are left
 
@@ -127,12 +159,17 @@ IfDecided (how.LogFull end wanted limit) P = P
 -- H holds of the first of the groups that are due from a spot on. They make what some items leave,
 -- and each part is complete there of whose line something was written. Where the answer is due,
 -- that is what is left; and where all was read, these are all groups.
-pub record IsLeft (why : Received) (from : Start) (read : Limited) (lines : List ℕ) (H : List Group → Type 0) : Type 0 where
+pub record IsLeft (why : Received) (from : Start) (read : Limited) (lines : List ℕ)
+    (H : List Group → Type 0) : Type 0 where
   pub items : List Item
   pub more : List Group
-  pub all : groups_from from.spot.watched from.spot.begun read.items ≡ groups_from from.spot.watched from.spot.begun items ++ more
+  pub all : groups_from from.spot.watched from.spot.begun read.items
+      ≡ groups_from from.spot.watched from.spot.begun items ++ more
   pub has : H (groups_from from.spot.watched from.spot.begun items)
   pub unwritten : List ℕ
-  pub printed : lines_behind from.base (run_by byte_step from.spot.watched items).state.state.store ≡ lines_behind from.base from.spot.watched.state.store ++ (lines ++ unwritten)
-  pub left : IfDecided why ((run_by byte_step from.spot.watched items).state.state.store ≡ left_from from.limit from.spot.place from.spot.watched read.items)
+  pub printed : lines_behind from.base (run_by byte_step from.spot.watched items).state.state.store
+      ≡ lines_behind from.base from.spot.watched.state.store ++ (lines ++ unwritten)
+  pub left : IfDecided why
+      ((run_by byte_step from.spot.watched items).state.state.store
+      ≡ left_from from.limit from.spot.place from.spot.watched read.items)
   pub whole : IfAllRead why (more ≡ [])

@@ -17,12 +17,19 @@ use Rattle.receiver.specs.Standing.{state_of, line_by}
 use Rattle.receiver.specs.Answers.{StepSays}
 
 -- An edit puts the places from one on.
-abbrev pub EditsAs : Result (Unit {0}) Received → Item → State (Option Place) → State (Option Place) → Type 0
-EditsAs result item old new = (place : Place) × StepSays result item new (step_edit None (cells_put further place item.command) old item.command)
+abbrev pub EditsAs : Result (Unit {0}) Received → Item → State (Option Place) → State (Option Place)
+    → Type 0
+EditsAs result item old new =
+    (place : Place)
+    × StepSays result item new
+    (step_edit None (cells_put further place item.command) old item.command)
 
 -- So does a command.
-abbrev pub TakesAs : Result (Unit {0}) Received → Item → State (Option Place) → State (Option Place) → Type 0
-TakesAs result item old new = (place : Place) × StepSays result item new (step None (cells_put further place item.command) old item.command)
+abbrev pub TakesAs : Result (Unit {0}) Received → Item → State (Option Place) → State (Option Place)
+    → Type 0
+TakesAs result item old new =
+    (place : Place)
+    × StepSays result item new (step None (cells_put further place item.command) old item.command)
 
 -- The state over cells that carry nothing.
 abbrev pub blank_of : StoreState → Option Opened → State (Unit {0})
@@ -30,7 +37,8 @@ blank_of store current = recelled_state (λ _. tt) (state_of store current)
 
 -- The line that a command brings which no guard refuses.
 abbrev pub line_under : List Guard → Option Opened → Command → List ℕ
-line_under guards current command = elim (guarded guards command) [ Some refusal ↦ [] | None ↦ line_by current command ]
+line_under guards current command =
+    elim (guarded guards command) [ Some refusal ↦ [] | None ↦ line_by current command ]
 
 -- The group that a head brings which is not refused.
 abbrev pub begun_if : {S : Type 0} → After S → Command → List Group

@@ -15,7 +15,8 @@ time_of t = record { secs = t.secs; nanos = t.nanos }
 -- A command with its values.
 abbrev pub meaning_of : Command → meant.Command
 meaning_of (made.Subvol uuid ctransid path) = meant.Subvol uuid ctransid path.now
-meaning_of (made.Snapshot uuid ctransid path clone_uuid clone_ctransid) = meant.Snapshot uuid ctransid path.now clone_uuid clone_ctransid
+meaning_of (made.Snapshot uuid ctransid path clone_uuid clone_ctransid) =
+    meant.Snapshot uuid ctransid path.now clone_uuid clone_ctransid
 meaning_of (made.MkFile path) = meant.MkFile path.now
 meaning_of (made.MkDir path) = meant.MkDir path.now
 meaning_of (made.MkNod mode rdev path) = meant.MkNod mode rdev path.now
@@ -29,7 +30,8 @@ meaning_of (made.Rmdir path) = meant.Rmdir path.now
 meaning_of (made.SetXattr name value path) = meant.SetXattr name.now value.now path.now
 meaning_of (made.RemoveXattr name path) = meant.RemoveXattr name.now path.now
 meaning_of (made.Write path offset bytes) = meant.Write path.now offset bytes.now
-meaning_of (made.Clone path offset clone_uuid clone_ctransid clone_path clone_offset clone_len) = meant.Clone path.now offset clone_uuid clone_ctransid clone_path.now clone_offset clone_len
+meaning_of (made.Clone path offset clone_uuid clone_ctransid clone_path clone_offset clone_len) =
+    meant.Clone path.now offset clone_uuid clone_ctransid clone_path.now clone_offset clone_len
 meaning_of (made.Truncate size path) = meant.Truncate size path.now
 meaning_of (made.Chmod mode path) = meant.Chmod mode path.now
 meaning_of (made.Chown uid gid path) = meant.Chown uid gid path.now

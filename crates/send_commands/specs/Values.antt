@@ -13,7 +13,8 @@ bytes_in table kind = unwrap_or (value_at table kind) []
 -- Attributes have the lengths of their forms.
 abbrev pub HaveForms : Table → List ℕ → Type 0
 HaveForms table [] = Unit {0}
-HaveForms table (kind ∷ kinds) = (form_fits (form_of kind) (bytes_in table kind) ≡ true) × HaveForms table kinds
+HaveForms table (kind ∷ kinds) =
+    (form_fits (form_of kind) (bytes_in table kind) ≡ true) × HaveForms table kinds
 
 -- The moments among attributes have less than a second of nanoseconds.
 abbrev pub are_timely : Table → List ℕ → Bool

@@ -19,7 +19,8 @@ FieldShort version kind (Bytes bytes) = HasRoom version kind (length bytes)
 
 -- The same of the values of attributes, in their order.
 abbrev pub FieldsShort : ℕ → List ℕ → List Field → Type 0
-FieldsShort version (kind ∷ kinds) (field ∷ fields) = FieldShort version kind field × FieldsShort version kinds fields
+FieldsShort version (kind ∷ kinds) (field ∷ fields) =
+    FieldShort version kind field × FieldsShort version kinds fields
 FieldsShort version [] [] = Unit {0}
 FieldsShort version [] (field ∷ fields) = ⊥
 FieldsShort version (kind ∷ kinds) [] = ⊥
@@ -35,11 +36,13 @@ IfSecond false P = Unit {0}
 
 -- In version 2, where data may have any length, the body is short enough for a frame.
 abbrev pub IsShortEnough : ℕ → Command → Type 0
-IsShortEnough version command = IfSecond (version == 2) (length (body_of version (attributes_of command)) ≤ greatest_body)
+IsShortEnough version command =
+    IfSecond (version == 2) (length (body_of version (attributes_of command)) ≤ greatest_body)
 
 -- Where in the canonical spelling of a command the bytes of its data begin, if it has data.
 unfoldable pub data_at : ℕ → Command → Option ℕ
-data_at version command = option_map (λ place. frame_header_len + place) (place_of version DATA (attributes_of command))
+data_at version command =
+    option_map (λ place. frame_header_len + place) (place_of version DATA (attributes_of command))
 
 -- A value of the code as one of the definitions.
 abbrev pub field_of : coded.Field → Field

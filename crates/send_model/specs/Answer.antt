@@ -43,7 +43,8 @@ and_number n = and_field (decimal n)
 unfoldable pub kept_values : Refusal → List ℕ
 kept_values (BadVersion version) = and_number version
 kept_values (LongCommand len) = and_number len
-kept_values (BadChecksum stored computed) = and_field (eight_digits stored) ++ and_field (eight_digits computed)
+kept_values (BadChecksum stored computed) =
+    and_field (eight_digits stored) ++ and_field (eight_digits computed)
 kept_values (UnknownCommand number) = and_number number
 kept_values (BadAttribute kind) = and_number kind
 kept_values (MissingAttribute kind) = and_number kind
@@ -82,7 +83,8 @@ kept_values NoNumber = []
 
 unfoldable pub verdict_text : Verdict → List ℕ
 verdict_text v = codes "refused" ++ and_number v.file ++ and_number v.command ++ and_number v.offset
-    ++ and_number (refusal_number v.refusal) ++ and_field (refusal_name v.refusal) ++ kept_values v.refusal
+    ++ and_number (refusal_number v.refusal) ++ and_field (refusal_name v.refusal)
+    ++ kept_values v.refusal
 
 abbrev pub line : List ℕ → List ℕ
 line text = text ++ 10 ∷ []
@@ -97,4 +99,5 @@ note_of OutputFault = line (codes "output fault")
 note_of NoMemory = line (codes "no memory")
 note_of (TooMuch sum) = line (codes "too much" ++ and_number sum)
 note_of (InputTooLong file) = line (codes "input too long" ++ and_number file)
-note_of (InputChanged file place) = line (codes "input changed" ++ and_number file ++ and_number place)
+note_of (InputChanged file place) =
+    line (codes "input changed" ++ and_number file ++ and_number place)

@@ -143,7 +143,8 @@ abbrev pub short_numbers : List ℕ
 short_numbers = FALLOCATE_MODE ∷ COMPRESSION ∷ ENCRYPTION ∷ []
 
 abbrev pub numbers : List ℕ
-numbers = CTRANSID ∷ INO ∷ SIZE ∷ MODE ∷ UID ∷ GID ∷ RDEV ∷ FILE_OFFSET ∷ CLONE_CTRANSID ∷ CLONE_OFFSET ∷ CLONE_LEN
+numbers = CTRANSID ∷ INO ∷ SIZE ∷ MODE ∷ UID ∷ GID ∷ RDEV ∷ FILE_OFFSET ∷ CLONE_CTRANSID
+    ∷ CLONE_OFFSET ∷ CLONE_LEN
     ∷ FILE_FLAGS ∷ UNENCODED_FILE_LEN ∷ UNENCODED_LEN ∷ UNENCODED_OFFSET ∷ []
 
 -- The form of each attribute.
@@ -188,7 +189,8 @@ FieldFits version kind (Bytes bytes) = HasRoom version kind (length bytes) × Is
 
 -- The same of the values of attributes, in their order.
 abbrev pub FieldsFit : ℕ → List ℕ → List Field → Type 0
-FieldsFit version (kind ∷ kinds) (field ∷ fields) = FieldFits version kind field × FieldsFit version kinds fields
+FieldsFit version (kind ∷ kinds) (field ∷ fields) =
+    FieldFits version kind field × FieldsFit version kinds fields
 FieldsFit version [] [] = Unit {0}
 FieldsFit version [] (field ∷ fields) = ⊥
 FieldsFit version (kind ∷ kinds) [] = ⊥

@@ -11,12 +11,19 @@ use Rattle.std.specs.List.{AllByRecursion}
 abbrev pub recelled : {C D : Type 0} → (C → D) → Subvolume C → Subvolume D
 recelled f s = with_cells (λ ino cells. map f cells) s
 
-abbrev pub recelled_result : {C D : Type 0} → (C → D) → Result (Subvolume C) Refusal → Result (Subvolume D) Refusal
+abbrev pub recelled_result : {C D : Type 0} → (C → D) → Result (Subvolume C) Refusal
+    → Result (Subvolume D) Refusal
 recelled_result f (Ok s) = Ok (recelled f s)
 recelled_result f (Err refusal) = Err refusal
 
 abbrev pub recelled_entry : {C D : Type 0} → (C → D) → Entry (Subvolume C) → Entry (Subvolume D)
-recelled_entry f e = record { name = e.name; key = e.key; parent = e.parent; contents = option_map (recelled f) e.contents }
+recelled_entry f e =
+    record {
+      name = e.name;
+      key = e.key;
+      parent = e.parent;
+      contents = option_map (recelled f) e.contents;
+    }
 
 abbrev pub recelled_store : {C D : Type 0} → (C → D) → Store C → Store D
 recelled_store f store = map (recelled_entry f) store
@@ -25,10 +32,12 @@ abbrev pub recelled_part : {C D : Type 0} → (C → D) → Part C → Part D
 recelled_part f part = record { key = part.key; subvolume = recelled f part.subvolume }
 
 abbrev pub recelled_state : {C D : Type 0} → (C → D) → State C → State D
-recelled_state f state = record { store = recelled_store f state.store; part = option_map (recelled_part f) state.part }
+recelled_state f state =
+    record { store = recelled_store f state.store; part = option_map (recelled_part f) state.part }
 
 abbrev pub recelled_step : {C D : Type 0} → (C → D) → Stepped C → Stepped D
-recelled_step f stepped = record { state = recelled_state f stepped.state; refusal = stepped.refusal }
+recelled_step f stepped =
+    record { state = recelled_state f stepped.state; refusal = stepped.refusal }
 
 -- ---- what holds of each cell
 

@@ -20,7 +20,8 @@ block_len = 4_096
 -- a test of its own.
 abbrev pub is_aligned : ℕ → ℕ → ℕ → ℕ → Bool
 is_aligned offset from len size =
-    (offset % block_len == 0) && (from % block_len == 0) && ((len % block_len == 0) || (from + len == size))
+    (offset % block_len == 0) && (from % block_len == 0)
+    && ((len % block_len == 0) || (from + len == size))
 
 -- Two ranges of one length share a place.
 abbrev pub overlap : ℕ → ℕ → ℕ → Bool
@@ -40,12 +41,15 @@ pub record CloneValues : Type 0 where
   pub from : ℕ
   pub len : ℕ
 
-abbrev pub clone_values : (path : List ℕ) (offset : ℕ) (clone_path : List ℕ) (from len : ℕ) → CloneValues
-clone_values path offset clone_path from len = record { path = path; offset = offset; clone_path = clone_path; from = from; len = len }
+abbrev pub clone_values : (path : List ℕ) (offset : ℕ) (clone_path : List ℕ) (from len : ℕ)
+    → CloneValues
+clone_values path offset clone_path from len =
+    record { path = path; offset = offset; clone_path = clone_path; from = from; len = len }
 
 -- Every refusal of a CLONE in its order, for the part, the subvolume of the source (nothing where
 -- there is none), whether that is the part itself, and the command's values.
-unfoldable pub cloned : {C : Type 0} → (part : Subvolume C) (source : Option (Subvolume C)) (is_own : Bool) (values : CloneValues)
+unfoldable pub cloned : {C : Type 0}
+    → (part : Subvolume C) (source : Option (Subvolume C)) (is_own : Bool) (values : CloneValues)
     → Result (Cloned C) Refusal
 cloned part source is_own values = do
   require (is_some (path_names values.path)) BadPath
@@ -55,14 +59,18 @@ cloned part source is_own values = do
   require (is_file part ino) NotFile
   source_ino ← walk other values.clone_path
   require (is_file other source_ino) NotFile
-  refuse_if ((values.len == 0) || nat_lt (length (cells_of other source_ino)) (values.from + values.len)) BadRange
-  require (is_aligned values.offset values.from values.len (length (cells_of other source_ino))) Unaligned
+  refuse_if ((values.len == 0)
+      || nat_lt (length (cells_of other source_ino)) (values.from + values.len)) BadRange
+  require (is_aligned values.offset values.from values.len
+      (length (cells_of other source_ino))) Unaligned
   require (nat_le (values.offset + values.len) greatest_end) FileTooBig
   refuse_if (is_own && (source_ino == ino) && overlap values.offset values.from values.len) Overlap
   Ok (record { ino = ino; cells = take values.len (drop values.from (cells_of other source_ino)) })
 
 -- The part after the clone.
-unfoldable pub clone : {C : Type 0} → (zero_cell : C) (part : Subvolume C) (source : Option (Subvolume C)) (is_own : Bool) (values : CloneValues)
+unfoldable pub clone : {C : Type 0}
+    → (zero_cell : C) (part : Subvolume C) (source : Option (Subvolume C)) (is_own : Bool)
+    (values : CloneValues)
     → Result (Subvolume C) Refusal
 clone zero_cell part source is_own values = do
   range ← cloned part source is_own values

@@ -41,7 +41,12 @@ pub record Row : Type 0 where
 
 unfoldable pub row : Kind → Row
 row SUBVOL = record { number = 1; name = codes "SUBVOL"; wanted = UUID ∷ CTRANSID ∷ PATH ∷ [] }
-row SNAPSHOT = record { number = 2; name = codes "SNAPSHOT"; wanted = UUID ∷ CTRANSID ∷ PATH ∷ CLONE_UUID ∷ CLONE_CTRANSID ∷ [] }
+row SNAPSHOT =
+    record {
+      number = 2;
+      name = codes "SNAPSHOT";
+      wanted = UUID ∷ CTRANSID ∷ PATH ∷ CLONE_UUID ∷ CLONE_CTRANSID ∷ [];
+    }
 row MKFILE = record { number = 3; name = codes "MKFILE"; wanted = PATH ∷ [] }
 row MKDIR = record { number = 4; name = codes "MKDIR"; wanted = PATH ∷ [] }
 row MKNOD = record { number = 5; name = codes "MKNOD"; wanted = MODE ∷ RDEV ∷ PATH ∷ [] }
@@ -52,21 +57,30 @@ row RENAME = record { number = 9; name = codes "RENAME"; wanted = PATH ∷ PATH_
 row LINK = record { number = 10; name = codes "LINK"; wanted = PATH ∷ PATH_LINK ∷ [] }
 row UNLINK = record { number = 11; name = codes "UNLINK"; wanted = PATH ∷ [] }
 row RMDIR = record { number = 12; name = codes "RMDIR"; wanted = PATH ∷ [] }
-row SET_XATTR = record { number = 13; name = codes "SET_XATTR"; wanted = XATTR_NAME ∷ XATTR_DATA ∷ PATH ∷ [] }
-row REMOVE_XATTR = record { number = 14; name = codes "REMOVE_XATTR"; wanted = XATTR_NAME ∷ PATH ∷ [] }
+row SET_XATTR =
+    record { number = 13; name = codes "SET_XATTR"; wanted = XATTR_NAME ∷ XATTR_DATA ∷ PATH ∷ [] }
+row REMOVE_XATTR =
+    record { number = 14; name = codes "REMOVE_XATTR"; wanted = XATTR_NAME ∷ PATH ∷ [] }
 row WRITE = record { number = 15; name = codes "WRITE"; wanted = PATH ∷ FILE_OFFSET ∷ DATA ∷ [] }
 row CLONE = record {
   number = 16;
   name = codes "CLONE";
-  wanted = PATH ∷ FILE_OFFSET ∷ CLONE_UUID ∷ CLONE_CTRANSID ∷ CLONE_PATH ∷ CLONE_OFFSET ∷ CLONE_LEN ∷ [];
+  wanted = PATH ∷ FILE_OFFSET ∷ CLONE_UUID ∷ CLONE_CTRANSID ∷ CLONE_PATH ∷ CLONE_OFFSET ∷ CLONE_LEN
+      ∷ [];
 }
 row TRUNCATE = record { number = 17; name = codes "TRUNCATE"; wanted = SIZE ∷ PATH ∷ [] }
 row CHMOD = record { number = 18; name = codes "CHMOD"; wanted = MODE ∷ PATH ∷ [] }
 row CHOWN = record { number = 19; name = codes "CHOWN"; wanted = UID ∷ GID ∷ PATH ∷ [] }
 row UTIMES = record { number = 20; name = codes "UTIMES"; wanted = MTIME ∷ ATIME ∷ PATH ∷ [] }
 row END = record { number = 21; name = codes "END"; wanted = [] }
-row UPDATE_EXTENT = record { number = 22; name = codes "UPDATE_EXTENT"; wanted = SIZE ∷ PATH ∷ FILE_OFFSET ∷ [] }
-row FALLOCATE = record { number = 23; name = codes "FALLOCATE"; wanted = SIZE ∷ PATH ∷ FILE_OFFSET ∷ FALLOCATE_MODE ∷ [] }
+row UPDATE_EXTENT =
+    record { number = 22; name = codes "UPDATE_EXTENT"; wanted = SIZE ∷ PATH ∷ FILE_OFFSET ∷ [] }
+row FALLOCATE =
+    record {
+      number = 23;
+      name = codes "FALLOCATE";
+      wanted = SIZE ∷ PATH ∷ FILE_OFFSET ∷ FALLOCATE_MODE ∷ [];
+    }
 row FILEATTR = record { number = 24; name = codes "FILEATTR"; wanted = PATH ∷ FILE_FLAGS ∷ [] }
 
 -- Version 2 has one command more, ENCODED_WRITE, which is never taken: it writes bytes that are
@@ -76,7 +90,8 @@ is_encoded version number = (version == 2) && (number == 25)
 
 abbrev pub first_kinds : List Kind
 first_kinds =
-    SUBVOL ∷ SNAPSHOT ∷ MKFILE ∷ MKDIR ∷ MKNOD ∷ MKFIFO ∷ MKSOCK ∷ SYMLINK ∷ RENAME ∷ LINK ∷ UNLINK ∷ RMDIR ∷ SET_XATTR
+    SUBVOL ∷ SNAPSHOT ∷ MKFILE ∷ MKDIR ∷ MKNOD ∷ MKFIFO ∷ MKSOCK ∷ SYMLINK ∷ RENAME ∷ LINK ∷ UNLINK
+    ∷ RMDIR ∷ SET_XATTR
     ∷ REMOVE_XATTR ∷ WRITE ∷ CLONE ∷ TRUNCATE ∷ CHMOD ∷ CHOWN ∷ UTIMES ∷ END ∷ UPDATE_EXTENT ∷ []
 
 abbrev pub all_kinds : List Kind
@@ -94,7 +109,8 @@ kind_of_number version number = find (λ kind. (row kind).number == number) (kin
 -- bytes; sizes and offsets count bytes; an identifier is its 16 bytes.
 pub data Command : Type 0 where
   Subvol : (uuid : List ℕ) (ctransid : ℕ) (path : List ℕ) → Command
-  Snapshot : (uuid : List ℕ) (ctransid : ℕ) (path : List ℕ) (clone_uuid : List ℕ) (clone_ctransid : ℕ) → Command
+  Snapshot : (uuid : List ℕ) (ctransid : ℕ) (path : List ℕ) (clone_uuid : List ℕ)
+      (clone_ctransid : ℕ) → Command
   MkFile : (path : List ℕ) → Command
   MkDir : (path : List ℕ) → Command
   MkNod : (mode : ℕ) (rdev : ℕ) (path : List ℕ) → Command
@@ -149,7 +165,8 @@ kind_of (FileAttr path flags) = FILEATTR
 abbrev pub fields_of : Command → List Field
 fields_of (Subvol uuid ctransid path) = Identifier uuid ∷ Number ctransid ∷ Bytes path ∷ []
 fields_of (Snapshot uuid ctransid path clone_uuid clone_ctransid) =
-    Identifier uuid ∷ Number ctransid ∷ Bytes path ∷ Identifier clone_uuid ∷ Number clone_ctransid ∷ []
+    Identifier uuid ∷ Number ctransid ∷ Bytes path ∷ Identifier clone_uuid ∷ Number clone_ctransid
+    ∷ []
 fields_of (MkFile path) = Bytes path ∷ []
 fields_of (MkDir path) = Bytes path ∷ []
 fields_of (MkNod mode rdev path) = Number mode ∷ Number rdev ∷ Bytes path ∷ []
@@ -164,14 +181,16 @@ fields_of (SetXattr name value path) = Bytes name ∷ Bytes value ∷ Bytes path
 fields_of (RemoveXattr name path) = Bytes name ∷ Bytes path ∷ []
 fields_of (Write path offset bytes) = Bytes path ∷ Number offset ∷ Bytes bytes ∷ []
 fields_of (Clone path offset clone_uuid clone_ctransid clone_path clone_offset clone_len) =
-    Bytes path ∷ Number offset ∷ Identifier clone_uuid ∷ Number clone_ctransid ∷ Bytes clone_path ∷ Number clone_offset ∷ Number clone_len ∷ []
+    Bytes path ∷ Number offset ∷ Identifier clone_uuid ∷ Number clone_ctransid ∷ Bytes clone_path
+    ∷ Number clone_offset ∷ Number clone_len ∷ []
 fields_of (Truncate size path) = Number size ∷ Bytes path ∷ []
 fields_of (Chmod mode path) = Number mode ∷ Bytes path ∷ []
 fields_of (Chown uid gid path) = Number uid ∷ Number gid ∷ Bytes path ∷ []
 fields_of (Utimes mtime atime path) = Moment mtime ∷ Moment atime ∷ Bytes path ∷ []
 fields_of End = []
 fields_of (UpdateExtent size path offset) = Number size ∷ Bytes path ∷ Number offset ∷ []
-fields_of (Fallocate size path offset mode) = Number size ∷ Bytes path ∷ Number offset ∷ ShortNumber mode ∷ []
+fields_of (Fallocate size path offset mode) =
+    Number size ∷ Bytes path ∷ Number offset ∷ ShortNumber mode ∷ []
 fields_of (FileAttr path flags) = Bytes path ∷ Number flags ∷ []
 
 -- The number, the short number and the moment that bytes say.
@@ -182,12 +201,15 @@ abbrev pub short_number_in : List ℕ → ℕ
 short_number_in bytes = from_le_bytes w32 bytes
 
 abbrev pub time_in : List ℕ → Time
-time_in bytes = record { secs = from_le_bytes w64 (take 8 bytes); nanos = from_le_bytes w32 (drop 8 bytes) }
+time_in bytes =
+    record { secs = from_le_bytes w64 (take 8 bytes); nanos = from_le_bytes w32 (drop 8 bytes) }
 
 -- The command of a kind whose wanted attributes have the given values.
 abbrev pub command_with : Kind → (ℕ → List ℕ) → Command
 command_with SUBVOL values = Subvol (values UUID) (number_in (values CTRANSID)) (values PATH)
-command_with SNAPSHOT values = Snapshot (values UUID) (number_in (values CTRANSID)) (values PATH) (values CLONE_UUID) (number_in (values CLONE_CTRANSID))
+command_with SNAPSHOT values =
+    Snapshot (values UUID) (number_in (values CTRANSID)) (values PATH) (values CLONE_UUID)
+    (number_in (values CLONE_CTRANSID))
 command_with MKFILE values = MkFile (values PATH)
 command_with MKDIR values = MkDir (values PATH)
 command_with MKNOD values = MkNod (number_in (values MODE)) (number_in (values RDEV)) (values PATH)
@@ -202,13 +224,17 @@ command_with SET_XATTR values = SetXattr (values XATTR_NAME) (values XATTR_DATA)
 command_with REMOVE_XATTR values = RemoveXattr (values XATTR_NAME) (values PATH)
 command_with WRITE values = Write (values PATH) (number_in (values FILE_OFFSET)) (values DATA)
 command_with CLONE values =
-    Clone (values PATH) (number_in (values FILE_OFFSET)) (values CLONE_UUID) (number_in (values CLONE_CTRANSID))
+    Clone (values PATH) (number_in (values FILE_OFFSET)) (values CLONE_UUID)
+    (number_in (values CLONE_CTRANSID))
     (values CLONE_PATH) (number_in (values CLONE_OFFSET)) (number_in (values CLONE_LEN))
 command_with TRUNCATE values = Truncate (number_in (values SIZE)) (values PATH)
 command_with CHMOD values = Chmod (number_in (values MODE)) (values PATH)
 command_with CHOWN values = Chown (number_in (values UID)) (number_in (values GID)) (values PATH)
 command_with UTIMES values = Utimes (time_in (values MTIME)) (time_in (values ATIME)) (values PATH)
 command_with END values = End
-command_with UPDATE_EXTENT values = UpdateExtent (number_in (values SIZE)) (values PATH) (number_in (values FILE_OFFSET))
-command_with FALLOCATE values = Fallocate (number_in (values SIZE)) (values PATH) (number_in (values FILE_OFFSET)) (short_number_in (values FALLOCATE_MODE))
+command_with UPDATE_EXTENT values =
+    UpdateExtent (number_in (values SIZE)) (values PATH) (number_in (values FILE_OFFSET))
+command_with FALLOCATE values =
+    Fallocate (number_in (values SIZE)) (values PATH) (number_in (values FILE_OFFSET))
+    (short_number_in (values FALLOCATE_MODE))
 command_with FILEATTR values = FileAttr (values PATH) (number_in (values FILE_FLAGS))

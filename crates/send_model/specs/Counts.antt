@@ -75,7 +75,9 @@ streams commands = count_by is_end commands
 unfoldable pub kept_from : List (List ℕ) → Option (List ℕ) → List Command → ℕ
 kept_from parts current [] = 0
 kept_from parts current (command ∷ commands) =
-    (if is_clone command && not (is_redirected parts current command) then 1 else 0) + kept_from parts (uuid_after current command) commands
+    (if is_clone command
+    && not (is_redirected parts current command) then 1 else 0) + kept_from parts
+    (uuid_after current command) commands
 
 -- Those of all items, and of files.
 abbrev pub kept_of : List Item → ℕ

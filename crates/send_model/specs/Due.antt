@@ -28,7 +28,9 @@ most_literal = 2 ^ 40
 
 -- The uncarried bytes of a command: those of a redirected clone.
 abbrev pub uncarried_of : Store ℕ → List (List ℕ) → State Traced → Option (List ℕ) → Item → ℕ
-uncarried_of base parts state current item = if is_redirected parts current item.command then uncarried_in base (clone_range state item.command ∷ []) else 0
+uncarried_of base parts state current item =
+    if is_redirected parts current item.command then uncarried_in base
+    (clone_range state item.command ∷ []) else 0
 
 -- What follows an item: its refusal, its breach of the order of parts, too many bytes up to it, or
 -- the rest.
@@ -45,24 +47,30 @@ pub record SoFarBy (S : Type 0) : Type 0 where
   pub current : Option (List ℕ)
   pub sum : ℕ
 
-abbrev pub come_by : {S : Type 0} → (state : S) (previous : Option Key) (current : Option (List ℕ)) (sum : ℕ) → SoFarBy S
-come_by state previous current sum = record { state = state; previous = previous; current = current; sum = sum }
+abbrev pub come_by : {S : Type 0}
+    → (state : S) (previous : Option Key) (current : Option (List ℕ)) (sum : ℕ) → SoFarBy S
+come_by state previous current sum =
+    record { state = state; previous = previous; current = current; sum = sum }
 
 abbrev pub SoFar : Type 0
 SoFar = SoFarBy (State Traced)
 
-abbrev pub come_to : (state : State Traced) (previous : Option Key) (current : Option (List ℕ)) (sum : ℕ) → SoFar
+abbrev pub come_to : (state : State Traced) (previous : Option Key) (current : Option (List ℕ))
+    (sum : ℕ) → SoFar
 come_to state previous current sum = come_by state previous current sum
 
 -- The first item that ends composing, where it has come so far before them; it is given what an
 -- item does to a state, and how many bytes are written for it.
-unfoldable pub due_by : {S : Type 0} → (S → Item → After S) → (S → Option (List ℕ) → Item → ℕ) → SoFarBy S → List Item → Option Due
+unfoldable pub due_by : {S : Type 0} → (S → Item → After S) → (S → Option (List ℕ) → Item → ℕ)
+    → SoFarBy S → List Item → Option Due
 due_by does much so_far [] = None
 due_by does much so_far (item ∷ items) =
     let stepped = does so_far.state item in
     let sum : ℕ = so_far.sum + much so_far.state so_far.current item in
     then_due item stepped.refusal (breaks_order so_far.previous (head_of item.command)) sum
-    (due_by does much (come_by stepped.state (part_after so_far.previous (head_of item.command)) (uuid_after so_far.current item.command) sum) items)
+    (due_by does much
+    (come_by stepped.state (part_after so_far.previous (head_of item.command))
+    (uuid_after so_far.current item.command) sum) items)
 
 unfoldable pub due_from : Store ℕ → List (List ℕ) → SoFar → List Item → Option Due
 unfolding due_by
@@ -79,10 +87,16 @@ or_due (Some due) other = due
 -- Of what was read: the commands in order, with what ends composing among them; then the fault that
 -- ended the reading; and last, that there is no part.
 abbrev pub reading_by : Option Due → Reading → Due
-reading_by among reading = or_due among (refused_due (first_of (fault_of reading.end) (without_parts reading.items (heads reading.items))))
+reading_by among reading =
+    or_due among
+    (refused_due
+    (first_of (fault_of reading.end) (without_parts reading.items (heads reading.items))))
 
 abbrev pub reading_due : Store ℕ → Reading → Due
-reading_due base reading = reading_by (due_from base (part_uuids reading.items) (come_to (start_of (traced_store base)) None None 0) reading.items) reading
+reading_due base reading =
+    reading_by
+    (due_from base (part_uuids reading.items)
+    (come_to (start_of (traced_store base)) None None 0) reading.items) reading
 
 -- All files are read for their heads before a command is looked at, up to the first fault. So the
 -- first among these that is too long, if there is one, comes before all else; a file behind the
@@ -102,12 +116,14 @@ compose_due base files = compose_due_of (too_long files) base (input files)
 -- The uncarried bytes of commands in front, where all parts of all items count as parts of the same
 -- files.
 abbrev pub uncarried_up_to : Store ℕ → List Item → List Item → ℕ
-uncarried_up_to base items front = uncarried_in base (ranges_from (part_uuids items) (start_of (traced_store base)) None front)
+uncarried_up_to base items front =
+    uncarried_in base (ranges_from (part_uuids items) (start_of (traced_store base)) None front)
 
 -- A command is the first with which too much would be written: it and all before it are accepted,
 -- and in order; up to it so many bytes of redirected clones would be written, more than are; and
 -- without it they are not more. How many there are up to a command is given.
-pub record IsFirstMuchBy (up_to : List Item → ℕ) (base : Store ℕ) (items : List Item) (sum : ℕ) : Type 0 where
+pub record IsFirstMuchBy (up_to : List Item → ℕ) (base : Store ℕ) (items : List Item)
+    (sum : ℕ) : Type 0 where
   pub before : List Item
   pub item : Item
   pub after : List Item
@@ -143,8 +159,12 @@ then_limited items (Faulty verdict) rest = record { items = items; stop = AtFaul
 unfoldable pub limited_from : ℕ → List (List ℕ) → Limited
 limited_from number [] = record { items = []; stop = AtEnd }
 limited_from number (bytes ∷ files) =
-    if is_too_long number bytes then record { items = (reads number (take limit bytes)).items; stop = AtLimit number }
-    else then_limited (reads number bytes).items (reads number bytes).end (limited_from (number + 1) files)
+    if is_too_long number bytes then record {
+      items = (reads number (take limit bytes)).items;
+      stop = AtLimit number;
+    }
+    else then_limited (reads number bytes).items (reads number bytes).end
+    (limited_from (number + 1) files)
 
 abbrev pub stop_due : Stop → Due
 stop_due AtEnd = DoneWhole
@@ -156,7 +176,9 @@ stop_due (AtLimit file) = TooLong file
 abbrev pub audit_due_of : Store ℕ → List Guard → Limited → Due
 audit_due_of store guards read =
     let start : Watched (State ℕ) = record { guards = guards; state = start_of store } in
-    let ran : Ran (Watched (State ℕ)) = run_by (watched_step (λ s item. step 0 (byte_cells item) s item.command)) start read.items in
+    let ran : Ran (Watched (State ℕ)) =
+    run_by (watched_step
+    (λ s item. step 0 (byte_cells item) s item.command)) start read.items in
     elim ran.refused [ Some verdict ↦ RefusedAt verdict | None ↦ stop_due read.stop ]
 
 unfoldable pub audit_due : Store ℕ → List Guard → List (List ℕ) → Due
@@ -164,7 +186,9 @@ audit_due store guards files = audit_due_of store guards (limited_from 1 files)
 
 -- What it prints where all is accepted: the parts and the commands of all files.
 abbrev pub accepted_line_of : List Item → List ℕ
-accepted_line_of items = codes "accepted " ++ decimal (length (heads items)) ++ 0x20 ∷ decimal (length items) ++ 0x0a ∷ []
+accepted_line_of items =
+    codes "accepted " ++ decimal (length (heads items)) ++ 0x20 ∷ decimal (length items)
+    ++ 0x0a ∷ []
 
 unfoldable pub accepted_line : List (List ℕ) → List ℕ
 accepted_line files = accepted_line_of (input files).items
@@ -173,23 +197,28 @@ accepted_line files = accepted_line_of (input files).items
 
 -- One file, whose commands are looked at by nobody.
 unfoldable pub file_due : List ℕ → Due
-file_due bytes = if is_too_long 1 bytes then TooLong 1 else refused_due (fault_of (reads 1 bytes).end)
+file_due bytes =
+    if is_too_long 1 bytes then TooLong 1 else refused_due (fault_of (reads 1 bytes).end)
 
 -- ---- laws
 
 -- The answer of compose is the verdict on what was read, unless a file is too long or there is too
 -- much: then more bytes than are written are uncarried, up to the first command with which they
 -- are; and where there is such a command, that is the answer.
-pub record IsJudgedBy (due : Due) (up_to : List Item → ℕ) (first_long : Option ℕ) (base : Store ℕ) (reading : Reading) : Type 0 where
+pub record IsJudgedBy (due : Due) (up_to : List Item → ℕ) (first_long : Option ℕ) (base : Store ℕ)
+    (reading : Reading) : Type 0 where
   pub done : due ≡ DoneWhole → (judge_of base reading ≡ None) × (up_to reading.items ≤ most_literal)
   pub refused : (verdict : Verdict) → due ≡ RefusedAt verdict → judge_of base reading ≡ Some verdict
   pub long : (file : ℕ) → due ≡ TooLong file → first_long ≡ Some file
   pub much : (sum : ℕ) → due ≡ TooMuch sum → (most_literal < sum) × (sum ≤ up_to reading.items)
   pub first : (sum : ℕ) → due ≡ TooMuch sum → IsFirstMuchBy up_to base reading.items sum
-  pub answered : (sum : ℕ) → first_long ≡ None → IsFirstMuchBy up_to base reading.items sum → due ≡ TooMuch sum
+  pub answered : (sum : ℕ) → first_long ≡ None → IsFirstMuchBy up_to base reading.items sum
+      → due ≡ TooMuch sum
 
 abbrev pub IsJudgedOf : (first_long : Option ℕ) (base : Store ℕ) (reading : Reading) → Type 0
-IsJudgedOf first_long base reading = IsJudgedBy (compose_due_of first_long base reading) (uncarried_up_to base reading.items) first_long base reading
+IsJudgedOf first_long base reading =
+    IsJudgedBy (compose_due_of first_long base reading)
+    (uncarried_up_to base reading.items) first_long base reading
 
 -- So it is of files.
 abbrev pub IsJudged : (base : Store ℕ) (files : List (List ℕ)) → Type 0

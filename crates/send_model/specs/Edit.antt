@@ -29,7 +29,8 @@ resized zero_cell size cells = take size (filled zero_cell size cells)
 
 -- New cells in the place of those at an offset, a gap before them filled with zero cells.
 unfoldable pub overwritten : {C : Type 0} → C → ℕ → List C → List C → List C
-overwritten zero_cell offset new cells = take offset (filled zero_cell offset cells) ++ new ++ drop (offset + length new) cells
+overwritten zero_cell offset new cells =
+    take offset (filled zero_cell offset cells) ++ new ++ drop (offset + length new) cells
 
 -- A write of no bytes changes nothing, wherever it stands.
 unfoldable pub written_at : {C : Type 0} → C → ℕ → List C → List C → List C
@@ -39,20 +40,33 @@ written_at zero_cell offset (c ∷ new) cells = overwritten zero_cell offset (c 
 -- ---- changes of a subvolume
 
 abbrev pub set_inode : {C : Type 0} → ℕ → Inode C → Subvolume C → Subvolume C
-set_inode ino inode s = record { inodes = with_value nat_cmp ino inode s.inodes; names = s.names; next = s.next }
+set_inode ino inode s =
+    record { inodes = with_value nat_cmp ino inode s.inodes; names = s.names; next = s.next }
 
 -- An inode that is there, changed.
 unfoldable pub change_inode : {C : Type 0} → ℕ → (Inode C → Inode C) → Subvolume C → Subvolume C
-change_inode ino change s = elim (inode_at s ino) [ None ↦ s | Some inode ↦ set_inode ino (change inode) s ]
+change_inode ino change s =
+    elim (inode_at s ino) [ None ↦ s | Some inode ↦ set_inode ino (change inode) s ]
 
 abbrev pub add_name : {C : Type 0} → Spot → ℕ → Subvolume C → Subvolume C
-add_name place ino s = record { inodes = s.inodes; names = with_value named_cmp (place.directory, place.name) ino s.names; next = s.next }
+add_name place ino s =
+    record {
+      inodes = s.inodes;
+      names = with_value named_cmp (place.directory, place.name) ino s.names;
+      next = s.next;
+    }
 
 abbrev pub remove_name : {C : Type 0} → Spot → Subvolume C → Subvolume C
-remove_name place s = record { inodes = s.inodes; names = without named_cmp (place.directory, place.name) s.names; next = s.next }
+remove_name place s =
+    record {
+      inodes = s.inodes;
+      names = without named_cmp (place.directory, place.name) s.names;
+      next = s.next;
+    }
 
 abbrev pub remove_inode : {C : Type 0} → ℕ → Subvolume C → Subvolume C
-remove_inode ino s = record { inodes = without nat_cmp ino s.inodes; names = s.names; next = s.next }
+remove_inode ino s =
+    record { inodes = without nat_cmp ino s.inodes; names = s.names; next = s.next }
 
 -- A new inode of the next number under a name.
 unfoldable pub add_inode : {C : Type 0} → Spot → Inode C → Subvolume C → Subvolume C
@@ -64,7 +78,9 @@ add_inode place inode s = record {
 
 -- A name goes, and with its last name the inode.
 unfoldable pub take_name : {C : Type 0} → Spot → ℕ → Subvolume C → Subvolume C
-take_name place ino s = if nat_le (name_count s ino) 1 then remove_inode ino (remove_name place s) else remove_name place s
+take_name place ino s =
+    if nat_le (name_count s ino) 1 then remove_inode ino
+    (remove_name place s) else remove_name place s
 
 -- ---- the edits
 
@@ -91,7 +107,8 @@ abbrev pub device_kind : ℕ → Option NodeKind
 device_kind mode = if format_bits mode == 0o020_000 then Some CharacterDevice
     else (if format_bits mode == 0o060_000 then Some BlockDevice else None)
 
-unfoldable pub make_device : {C : Type 0} → ℕ → ℕ → List ℕ → Subvolume C → Result (Subvolume C) Refusal
+unfoldable pub make_device : {C : Type 0} → ℕ → ℕ → List ℕ → Subvolume C
+    → Result (Subvolume C) Refusal
 make_device mode rdev path s = do
   kind ← found (device_kind mode) BadDevice
   make (new_inode kind 0o600 rdev []) path s
@@ -123,7 +140,12 @@ rmdir path s = do
 -- The walk to the directory of a path passes an inode: the directory is that inode or lies below
 -- it.
 unfoldable pub lies_below : {C : Type 0} → Subvolume C → ℕ → List ℕ → Bool
-lies_below s ino path = elim (path_names path) [ None ↦ false | Some names ↦ list_any (λ i. i == ino) (inodes_on_way s root (all_but_last names)) ]
+lies_below s ino path =
+    elim (path_names path) [
+      | None ↦ false
+      | Some names ↦
+          list_any (λ i. i == ino) (inodes_on_way s root (all_but_last names))
+    ]
 
 -- The name of the moved inode goes from one place to another.
 unfoldable pub move_name : {C : Type 0} → Spot → Spot → ℕ → Subvolume C → Subvolume C
@@ -138,7 +160,8 @@ can_replace s moved there = do
   require (not (is_directory s there) || is_empty_directory s there) NotEmpty
 
 -- The inode moves to a place where the given one stands, if any. Two names of one file both stay.
-unfoldable pub rename_onto : {C : Type 0} → Spot → Spot → List ℕ → ℕ → Option ℕ → Subvolume C → Result (Subvolume C) Refusal
+unfoldable pub rename_onto : {C : Type 0} → Spot → Spot → List ℕ → ℕ → Option ℕ → Subvolume C
+    → Result (Subvolume C) Refusal
 rename_onto from to path_to moved None s = do
   refuse_if (is_directory s moved && lies_below s moved path_to) IntoItself
   Ok (move_name from to moved s)
@@ -155,7 +178,8 @@ rename path path_to s = do
   rename_onto from to path_to moved (at_spot s to) s
 
 -- A change of the inode that a path leads to.
-unfoldable pub change_at : {C : Type 0} → List ℕ → (Inode C → Inode C) → Subvolume C → Result (Subvolume C) Refusal
+unfoldable pub change_at : {C : Type 0} → List ℕ → (Inode C → Inode C) → Subvolume C
+    → Result (Subvolume C) Refusal
 change_at path change s = do
   ino ← walk s path
   Ok (change_inode ino change s)
@@ -163,16 +187,24 @@ change_at path change s = do
 abbrev pub is_xattr_name : List ℕ → Bool
 is_xattr_name name = nat_le 1 (length name) && nat_le (length name) 255
 
-unfoldable pub set_xattr : {C : Type 0} → List ℕ → List ℕ → List ℕ → Subvolume C → Result (Subvolume C) Refusal
+unfoldable pub set_xattr : {C : Type 0} → List ℕ → List ℕ → List ℕ → Subvolume C
+    → Result (Subvolume C) Refusal
 set_xattr path name value s = do
   ino ← walk s path
   require (is_xattr_name name) BadXattr
-  Ok (change_inode ino (λ inode. record inode { xattrs = with_value bytes_cmp name value inode.xattrs }) s)
+  Ok (change_inode ino
+      (λ inode. record inode { xattrs = with_value bytes_cmp name value inode.xattrs }) s)
 
 abbrev pub has_xattr : {C : Type 0} → Subvolume C → ℕ → List ℕ → Bool
-has_xattr s ino name = elim (inode_at s ino) [ None ↦ false | Some inode ↦ is_some (value_at bytes_cmp name inode.xattrs) ]
+has_xattr s ino name =
+    elim (inode_at s ino) [
+      | None ↦ false
+      | Some inode ↦
+          is_some (value_at bytes_cmp name inode.xattrs)
+    ]
 
-unfoldable pub remove_xattr : {C : Type 0} → List ℕ → List ℕ → Subvolume C → Result (Subvolume C) Refusal
+unfoldable pub remove_xattr : {C : Type 0} → List ℕ → List ℕ → Subvolume C
+    → Result (Subvolume C) Refusal
 remove_xattr path name s = do
   ino ← walk s path
   require (is_xattr_name name) BadXattr
@@ -183,7 +215,8 @@ abbrev pub set_cells : {C : Type 0} → (List C → List C) → Inode C → Inod
 set_cells change inode = record inode { cells = change inode.cells }
 
 -- The contents of a file change, and end at the given place at most.
-unfoldable pub change_contents : {C : Type 0} → List ℕ → ℕ → (List C → List C) → Subvolume C → Result (Subvolume C) Refusal
+unfoldable pub change_contents : {C : Type 0} → List ℕ → ℕ → (List C → List C) → Subvolume C
+    → Result (Subvolume C) Refusal
 change_contents path end change s = do
   ino ← walk s path
   require (is_file s ino) NotFile
@@ -211,7 +244,9 @@ allocation_of mode =
 
 -- Zero cells in place of those of a range, as far as there are any.
 abbrev pub zeroed : {C : Type 0} → C → ℕ → ℕ → List C → List C
-zeroed zero_cell offset size cells = take offset cells ++ map (λ c. zero_cell) (take size (drop offset cells)) ++ drop (offset + size) cells
+zeroed zero_cell offset size cells =
+    take offset cells ++ map (λ c. zero_cell) (take size (drop offset cells))
+    ++ drop (offset + size) cells
 
 -- Filled up to the end of the range, or as they are, or zero cells in it: as far as there are
 -- cells, or as a write of so many.
@@ -219,15 +254,18 @@ abbrev pub allocated : {C : Type 0} → C → Allocation → ℕ → ℕ → Lis
 allocated zero_cell Lengthen offset size cells = filled zero_cell (offset + size) cells
 allocated zero_cell KeepSize offset size cells = cells
 allocated zero_cell PunchHole offset size cells = zeroed zero_cell offset size cells
-allocated zero_cell ZeroRange offset size cells = written_at zero_cell offset (replicate size zero_cell) cells
+allocated zero_cell ZeroRange offset size cells =
+    written_at zero_cell offset (replicate size zero_cell) cells
 allocated zero_cell ZeroWithin offset size cells = zeroed zero_cell offset size cells
 
 -- A range of no cells changes nothing, wherever it stands.
 unfoldable pub fallocated : {C : Type 0} → C → Allocation → ℕ → ℕ → List C → List C
 fallocated zero_cell allocation offset zero cells = cells
-fallocated zero_cell allocation offset (suc size) cells = allocated zero_cell allocation offset (suc size) cells
+fallocated zero_cell allocation offset (suc size) cells =
+    allocated zero_cell allocation offset (suc size) cells
 
-unfoldable pub fallocate : {C : Type 0} → C → List ℕ → ℕ → ℕ → ℕ → Subvolume C → Result (Subvolume C) Refusal
+unfoldable pub fallocate : {C : Type 0} → C → List ℕ → ℕ → ℕ → ℕ → Subvolume C
+    → Result (Subvolume C) Refusal
 fallocate zero_cell path offset size mode s = do
   ino ← walk s path
   require (is_file s ino) NotFile
@@ -238,28 +276,36 @@ fallocate zero_cell path offset size mode s = do
 -- The edit of each command, where a WRITE puts the given cells. Heads, CLONE and END are no edits
 -- of one subvolume, and stand here as the edit that changes nothing. UPDATE_EXTENT says where data
 -- is, and changes nothing.
-unfoldable pub edit : {C : Type 0} → C → List C → Command → Subvolume C → Result (Subvolume C) Refusal
+unfoldable pub edit : {C : Type 0} → C → List C → Command → Subvolume C
+    → Result (Subvolume C) Refusal
 edit zero_cell put (MkFile path) s = make (new_inode File 0o600 0 []) path s
 edit zero_cell put (MkDir path) s = make new_directory path s
 edit zero_cell put (MkNod mode rdev path) s = make_device mode rdev path s
 edit zero_cell put (MkFifo path) s = make (new_inode Fifo 0o600 0 []) path s
 edit zero_cell put (MkSock path) s = make (new_inode Socket 0o600 0 []) path s
-edit zero_cell put (Symlink path path_link) s = make (new_inode SymbolicLink 0o777 0 path_link) path s
+edit zero_cell put (Symlink path path_link) s =
+    make (new_inode SymbolicLink 0o777 0 path_link) path s
 edit zero_cell put (Rename path path_to) s = rename path path_to s
 edit zero_cell put (Link path path_link) s = link path path_link s
 edit zero_cell put (Unlink path) s = unlink path s
 edit zero_cell put (Rmdir path) s = rmdir path s
 edit zero_cell put (SetXattr name value path) s = set_xattr path name value s
 edit zero_cell put (RemoveXattr name path) s = remove_xattr path name s
-edit zero_cell put (Write path offset bytes) s = change_contents path (offset + length put) (written_at zero_cell offset put) s
+edit zero_cell put (Write path offset bytes) s =
+    change_contents path (offset + length put) (written_at zero_cell offset put) s
 edit zero_cell put (Truncate size path) s = change_contents path size (resized zero_cell size) s
-edit zero_cell put (Chmod mode path) s = change_at path (λ inode. record inode { mode = mode % 0o10_000 }) s
-edit zero_cell put (Chown uid gid path) s = change_at path (λ inode. record inode { uid = uid; gid = gid }) s
-edit zero_cell put (Utimes mtime atime path) s = change_at path (λ inode. record inode { atime = atime; mtime = mtime }) s
+edit zero_cell put (Chmod mode path) s =
+    change_at path (λ inode. record inode { mode = mode % 0o10_000 }) s
+edit zero_cell put (Chown uid gid path) s =
+    change_at path (λ inode. record inode { uid = uid; gid = gid }) s
+edit zero_cell put (Utimes mtime atime path) s =
+    change_at path (λ inode. record inode { atime = atime; mtime = mtime }) s
 edit zero_cell put (UpdateExtent size path offset) s = Ok s
 edit zero_cell put (Fallocate size path offset mode) s = fallocate zero_cell path offset size mode s
-edit zero_cell put (FileAttr path flags) s = change_at path (λ inode. record inode { flags = flags }) s
+edit zero_cell put (FileAttr path flags) s =
+    change_at path (λ inode. record inode { flags = flags }) s
 edit zero_cell put (Subvol uuid ctransid path) s = Ok s
 edit zero_cell put (Snapshot uuid ctransid path clone_uuid clone_ctransid) s = Ok s
-edit zero_cell put (Clone path offset clone_uuid clone_ctransid clone_path clone_offset clone_len) s = Ok s
+edit zero_cell put
+    (Clone path offset clone_uuid clone_ctransid clone_path clone_offset clone_len) s = Ok s
 edit zero_cell put End s = Ok s

@@ -25,26 +25,34 @@ pub record IsExportedOf (base : Store ℕ) (reading : Reading) (written : List �
   pub commands_are : commands_in written ≡ separated (start_of base) (commands_of reading.items)
   -- every store that finds the same subvolumes outside, and takes what was read, takes it and comes
   -- to the same state
-  pub taken : (store : Store ℕ) → IsStore store → SameOn base store (keys_outside reading.items) → IsAccepted (receive_of store reading)
+  pub taken : (store : Store ℕ) → IsStore store → SameOn base store (keys_outside reading.items)
+      → IsAccepted (receive_of store reading)
       → receive store (written ∷ []) ≡ receive_of store reading
   -- and so does the real receiver there, which writes on to the file that it has open
-  pub received : (store : Store ℕ) → IsStore store → SameOn base store (keys_outside reading.items) → IsAccepted (receive_of store reading)
-      → ReceiverTakes (record { state = start_of store; opened = None }) (commands_in written) (receive_of store reading).state
+  pub received : (store : Store ℕ) → IsStore store → SameOn base store (keys_outside reading.items)
+      → IsAccepted (receive_of store reading)
+      → ReceiverTakes (record { state = start_of store; opened = None }) (commands_in written)
+      (receive_of store reading).state
   -- all that the headline says of a composed stream, it says of what is exported where these are
   -- its commands
-  pub composed : (other : Store ℕ) (parts : Reading) (stream : List ℕ) → reading.end ≡ Whole → commands_of reading.items ≡ commands_in stream
-      → IsComposedOf other parts stream → SameOn other base (keys_outside parts.items) → IsComposedOf other parts written
+  pub composed : (other : Store ℕ) (parts : Reading) (stream : List ℕ) → reading.end ≡ Whole
+      → commands_of reading.items ≡ commands_in stream
+      → IsComposedOf other parts stream → SameOn other base (keys_outside parts.items)
+      → IsComposedOf other parts written
 
 -- ---- laws
 
 -- So it is of one file of bytes or more, with lawful overrides, that are taken over a store over
 -- which files can be exported.
 abbrev pub NamedExportHolds : Type 0
-NamedExportHolds = (base : Store ℕ) (overrides : Overrides) (files : List (List ℕ)) → files ≢ [] → CanExportOver base
+NamedExportHolds =
+    (base : Store ℕ) (overrides : Overrides) (files : List (List ℕ)) → files ≢ []
+    → CanExportOver base
     → AllByRecursion IsBytes files → AreLawfulOverrides overrides
     → audit_due_of base [] (overridden_limited overrides (limited_from 1 files)) ≡ DoneWhole
     → AreSmallBy byte_step (start_of base) (overridden overrides (input files)).items
-    → IsExportedOf base (overridden overrides (input files)) (exported_of base (overridden_limited overrides (limited_from 1 files)).items)
+    → IsExportedOf base (overridden overrides (input files))
+    (exported_of base (overridden_limited overrides (limited_from 1 files)).items)
 
 -- Of files without overrides it is what export promises of files.
 abbrev pub FilesArePromisedTheSame : Type 0

@@ -40,7 +40,9 @@ exporting_after now command state = record {
 
 -- The separator that goes before an item, as items of the same stream.
 abbrev pub items_before : {C : Type 0} → Exporting C → Item → List Item
-items_before now item = map (λ command. record item { command = command }) (separator now.opened now.other now.state item.command)
+items_before now item =
+    map (λ command. record item { command = command })
+    (separator now.opened now.other now.state item.command)
 
 -- An item with its separator, and then the rest; nothing where it is refused.
 abbrev pub then_separated : Option Refusal → List Item → List Item
@@ -49,10 +51,13 @@ then_separated None rest = rest
 
 -- Items with separators, up to the first that is refused, where it is given what an item does to a
 -- state.
-unfoldable pub separated_by : {C : Type 0} → (State C → Item → After (State C)) → Exporting C → List Item → List Item
+unfoldable pub separated_by : {C : Type 0} → (State C → Item → After (State C)) → Exporting C
+    → List Item → List Item
 separated_by does now [] = []
 separated_by does now (item ∷ items) = let after = does now.state item in
-    then_separated after.refusal (items_before now item ++ item ∷ separated_by does (exporting_after now item.command after.state) items)
+    then_separated after.refusal
+    (items_before now item
+    ++ item ∷ separated_by does (exporting_after now item.command after.state) items)
 
 -- What an item does to a store of bytes.
 abbrev pub byte_step : State ℕ → Item → After (State ℕ)
@@ -79,16 +84,21 @@ pub record IsExported (base : Store ℕ) (files : List (List ℕ)) (written : Li
   -- version that it came in
   pub whole : (reads 1 written).end ≡ Whole
   pub same : map said (reads 1 written).items ≡ map said (separated_items base (input files).items)
-  pub commands_are : commands_in written ≡ separated (start_of base) (commands_of (input files).items)
+  pub commands_are : commands_in written
+      ≡ separated (start_of base) (commands_of (input files).items)
   -- every store that finds the same subvolumes outside, and takes the files, takes it and comes to
   -- the same state
-  pub taken : (store : Store ℕ) → IsStore store → SameOn base store (outside files) → IsAccepted (receive store files)
+  pub taken : (store : Store ℕ) → IsStore store → SameOn base store (outside files)
+      → IsAccepted (receive store files)
       → receive store (written ∷ []) ≡ receive store files
   -- and so does the real receiver there, which writes on to the file that it has open
-  pub received : (store : Store ℕ) → IsStore store → SameOn base store (outside files) → IsAccepted (receive store files)
-      → ReceiverTakes (record { state = start_of store; opened = None }) (commands_in written) (receive store files).state
+  pub received : (store : Store ℕ) → IsStore store → SameOn base store (outside files)
+      → IsAccepted (receive store files)
+      → ReceiverTakes (record { state = start_of store; opened = None }) (commands_in written)
+      (receive store files).state
   -- all that the headline says of a composed stream, it says of what is exported of it
-  pub composed : (other : Store ℕ) (parts : List (List ℕ)) (stream : List ℕ) → files ≡ stream ∷ [] → IsComposed other parts stream
+  pub composed : (other : Store ℕ) (parts : List (List ℕ)) (stream : List ℕ) → files ≡ stream ∷ []
+      → IsComposed other parts stream
       → SameOn other base (outside parts) → IsComposed other parts written
 
 -- A moment that the format can say.
@@ -106,17 +116,23 @@ pub record CanExportOver (store : Store ℕ) : Type 0 where
   pub times : (key : Key) (s : Subvolume ℕ) → find store key ≡ Some s → HasTimes s
 
 -- Before each item, as long as all are taken, the part has fewer than 2^64 names.
-unfoldable pub AreSmallBy : {C : Type 0} → (State C → Item → After (State C)) → State C → List Item → Type 0
+unfoldable pub AreSmallBy : {C : Type 0} → (State C → Item → After (State C)) → State C → List Item
+    → Type 0
 AreSmallBy does state [] = Unit {0}
-AreSmallBy does state (item ∷ items) = IsSmall state.part × AreSmallBy does (does state item).state items
+AreSmallBy does state (item ∷ items) =
+    IsSmall state.part × AreSmallBy does (does state item).state items
 
 -- So it is of one file of bytes or more that are taken over such a store.
 abbrev pub ExportedIsSame : Type 0
-ExportedIsSame = (base : Store ℕ) (files : List (List ℕ)) → files ≢ [] → CanExportOver base → AllByRecursion IsBytes files
-    → audit_due base [] files ≡ DoneWhole → AreSmallBy byte_step (start_of base) (input files).items → IsExported base files (exported base files)
+ExportedIsSame =
+    (base : Store ℕ) (files : List (List ℕ)) → files ≢ [] → CanExportOver base
+    → AllByRecursion IsBytes files
+    → audit_due base [] files ≡ DoneWhole → AreSmallBy byte_step (start_of base) (input files).items
+    → IsExported base files (exported base files)
 
 -- Over no store files can be exported, and over whatever is received into a store over which they
 -- can.
 abbrev pub ReceivedCanExport : Type 0
-ReceivedCanExport = (store : Store ℕ) (files : List (List ℕ)) → CanExportOver store → AllByRecursion IsBytes files
+ReceivedCanExport =
+    (store : Store ℕ) (files : List (List ℕ)) → CanExportOver store → AllByRecursion IsBytes files
     → CanExportOver (completed (receive store files).state)

@@ -58,8 +58,10 @@ later_part seed part =
     let before : ℕ = 7 * (part - 2) in
     let written : List ℕ = file_name (draw seed (before + 1) 8) in
     Snapshot (part_uuid seed part) part (part_name part) (part_uuid seed (part - 1)) (part - 1)
-    ∷ Write written (4_096 * draw seed (before + 2) 3) (replicate 4_096 (draw seed (before + 3) 256))
-    ∷ Clone (file_name (draw seed (before + 6) 8)) (4_096 * draw seed (before + 7) 3) (part_uuid seed (part - 1)) (part - 1)
+    ∷ Write written (4_096 * draw seed (before + 2) 3)
+    (replicate 4_096 (draw seed (before + 3) 256))
+    ∷ Clone (file_name (draw seed (before + 6) 8)) (4_096 * draw seed (before + 7) 3)
+    (part_uuid seed (part - 1)) (part - 1)
     (file_name (draw seed (before + 4) 8)) (4_096 * draw seed (before + 5) 3) 4_096
     ∷ Rename written (codes "t") ∷ Rename (codes "t") written ∷ End ∷ []
 
@@ -67,18 +69,27 @@ later_part seed part =
 unfoldable pub parts_of : ℕ → ℕ → List (List Command)
 parts_of seed zero = []
 parts_of seed (suc zero) = first_part seed ∷ []
-parts_of seed (suc (suc count)) = parts_of seed (suc count) ++ later_part seed (suc (suc count)) ∷ []
+parts_of seed (suc (suc count)) =
+    parts_of seed (suc count) ++ later_part seed (suc (suc count)) ∷ []
 
 -- The chain: each part is a stream of version 1.
 unfoldable pub chain_of : ℕ → ℕ → List ℕ
-chain_of seed count = flat_map (λ part. stream_header 1 ++ canonical_all 1 part) (parts_of seed count)
+chain_of seed count =
+    flat_map (λ part. stream_header 1 ++ canonical_all 1 part) (parts_of seed count)
 
 -- ---- the trial
 
 -- The chain's commands as items of one file. Composing looks at nothing else of an item.
 abbrev pub chain_items : ℕ → ℕ → List Item
 chain_items seed count =
-    map (λ command. record { file = 1; number = 1; offset = 0; version = 1; data_at = 0; command = command })
+    map (λ command. record {
+      file = 1;
+      number = 1;
+      offset = 0;
+      version = 1;
+      data_at = 0;
+      command = command;
+    })
     (flat_map (λ part. part) (parts_of seed count))
 
 -- What the chain is composed to over the empty store.
@@ -89,6 +100,8 @@ trial_composed seed count = composed_of [] (chain_items seed count)
 -- and the bytes of redirected clones that it carries.
 unfoldable pub trial_line : ℕ → ℕ → List ℕ
 trial_line seed count =
-    codes "trial " ++ decimal count ++ 0x20 ∷ decimal (length (chain_items seed count)) ++ 0x20 ∷ decimal (length (chain_of seed count))
-    ++ 0x20 ∷ decimal (length (stream_header 1 ++ canonical_all 1 (trial_composed seed count))) ++ 0x20 ∷ decimal (clones (trial_composed seed count))
+    codes "trial " ++ decimal count ++ 0x20 ∷ decimal (length (chain_items seed count))
+    ++ 0x20 ∷ decimal (length (chain_of seed count))
+    ++ 0x20 ∷ decimal (length (stream_header 1 ++ canonical_all 1 (trial_composed seed count)))
+    ++ 0x20 ∷ decimal (clones (trial_composed seed count))
     ++ 0x20 ∷ decimal (uncarried_in [] (ranges_of [] (chain_items seed count))) ++ 0x0a ∷ []

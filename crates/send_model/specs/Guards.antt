@@ -55,7 +55,8 @@ seen (Rmdir path) = Another
 seen (SetXattr name value path) = Another
 seen (RemoveXattr name path) = Another
 seen (Write path offset bytes) = Writes offset (length bytes)
-seen (Clone path offset clone_uuid clone_ctransid clone_path clone_offset clone_len) = ClonesTo (offset + clone_len)
+seen (Clone path offset clone_uuid clone_ctransid clone_path clone_offset clone_len) =
+    ClonesTo (offset + clone_len)
 seen (Truncate size path) = CutsTo size
 seen (Chmod mode path) = Another
 seen (Chown uid gid path) = Another
@@ -124,7 +125,8 @@ unfoldable pub guard_refuses : Guard → Command → Bool
 guard_refuses guard command = refuses guard.spec guard.used (seen command)
 
 unfoldable pub guard_after : Guard → Command → Guard
-guard_after guard command = record { spec = guard.spec; used = used_after guard.spec guard.used (seen command) }
+guard_after guard command =
+    record { spec = guard.spec; used = used_after guard.spec guard.used (seen command) }
 
 -- ---- the guards in order
 
@@ -132,7 +134,9 @@ guard_after guard command = record { spec = guard.spec; used = used_after guard.
 -- had counted.
 unfoldable pub refused_from : ℕ → List Guard → Command → Option Refusal
 refused_from place [] command = None
-refused_from place (guard ∷ guards) command = if guard_refuses guard command then Some (Guarded place guard.used) else refused_from (place + 1) guards command
+refused_from place (guard ∷ guards) command =
+    if guard_refuses guard command then Some (Guarded place guard.used) else refused_from
+    (place + 1) guards command
 
 -- The refusal of the first guard that refuses, with its place from 0 on.
 abbrev pub guarded : List Guard → Command → Option Refusal
@@ -142,7 +146,9 @@ guarded guards command = refused_from 0 guards command
 -- and it and those after it are as before.
 unfoldable pub looked : List Guard → Command → List Guard
 looked [] command = []
-looked (guard ∷ guards) command = if guard_refuses guard command then guard ∷ guards else guard_after guard command ∷ looked guards command
+looked (guard ∷ guards) command =
+    if guard_refuses guard command then guard ∷ guards else guard_after guard command
+    ∷ looked guards command
 
 -- ---- receiving with guards
 
@@ -152,21 +158,29 @@ pub record Watched (S : Type 0) : Type 0 where
   pub state : S
 
 abbrev pub watched : {S : Type 0} → List Guard → After S → After (Watched S)
-watched guards after = record { state = record { guards = guards; state = after.state }; refusal = after.refusal }
+watched guards after =
+    record { state = record { guards = guards; state = after.state }; refusal = after.refusal }
 
 -- An item under guards: one that a guard refuses changes nothing of the state; else it does what it
 -- does.
 abbrev pub watched_step : {S : Type 0} → (S → Item → After S) → Watched S → Item → After (Watched S)
 watched_step does w item = elim (guarded w.guards item.command) [
-  | Some refusal ↦ record { state = record { guards = looked w.guards item.command; state = w.state }; refusal = Some refusal }
+  | Some refusal ↦
+      record {
+        state = record { guards = looked w.guards item.command; state = w.state };
+        refusal = Some refusal;
+      }
   | None ↦ watched (looked w.guards item.command) (does w.state item)
 ]
 
 -- Receiving what was read into a store under guards.
-unfoldable pub receive_watched : {C : Type 0} → C → (Item → List C) → Store C → List Guard → Reading → Ran (Watched (State C))
+unfoldable pub receive_watched : {C : Type 0} → C → (Item → List C) → Store C → List Guard → Reading
+    → Ran (Watched (State C))
 receive_watched zero_cell cells store guards reading =
     let start : Watched (State _) = record { guards = guards; state = start_of store } in
-    with_fault (run_by (watched_step (λ s item. step zero_cell (cells item) s item.command)) start reading.items) reading.end
+    with_fault (run_by
+    (watched_step
+    (λ s item. step zero_cell (cells item) s item.command)) start reading.items) reading.end
 
 -- Receiving files into a store of bytes under guards.
 unfoldable pub receive_under : Store ℕ → List Guard → List (List ℕ) → Ran (Watched (State ℕ))
@@ -176,18 +190,21 @@ receive_under store guards files = receive_watched 0 byte_cells store guards (in
 
 -- What follows a text in front of a word, if the word begins with it.
 abbrev pub after_text : List ℕ → List ℕ → Option (List ℕ)
-after_text text word = if bytes_eq (take (length text) word) text then Some (drop (length text) word) else None
+after_text text word =
+    if bytes_eq (take (length text) word) text then Some (drop (length text) word) else None
 
 -- The number that one to twenty decimal digits say, where it has 64 bits. Zeros in front are
 -- lawful.
 abbrev pub number_word : List ℕ → Option ℕ
 number_word word =
-    if nat_le 1 (length word) && nat_le (length word) 20 && all_ascii_digits word && nat_lt (digits_value 10 word) (2 ^ 64)
+    if nat_le 1 (length word) && nat_le (length word) 20 && all_ascii_digits word
+    && nat_lt (digits_value 10 word) (2 ^ 64)
     then Some (digits_value 10 word) else None
 
 -- The guard of a text with a number after it.
 abbrev pub numbered_guard : List ℕ → (ℕ → GuardSpec) → List ℕ → Option GuardSpec
-numbered_guard text guard word = elim (after_text text word) [ None ↦ None | Some rest ↦ option_map guard (number_word rest) ]
+numbered_guard text guard word =
+    elim (after_text text word) [ None ↦ None | Some rest ↦ option_map guard (number_word rest) ]
 
 -- The words `guard:bytes=N`, `guard:commands=N`, `guard:nodev` and `guard:end=N`; no other word is
 -- a guard's.

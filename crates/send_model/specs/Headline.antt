@@ -23,7 +23,8 @@ commands_in written = commands_of (reads 1 written).items
 
 -- A store that the composed stream can be received into: it finds the same outside subvolumes as
 -- the base, and has neither the last part's name nor its uuid.
-pub record CanReceiveOf (base : Store ℕ) (items : List Item) (last : Head) (store : Store ℕ) : Type 0 where
+pub record CanReceiveOf (base : Store ℕ) (items : List Item) (last : Head)
+    (store : Store ℕ) : Type 0 where
   pub lawful : IsStore store
   pub same : SameOn base store (keys_outside items)
   pub no_name : has_name last.name store ≡ false
@@ -32,31 +33,40 @@ pub record CanReceiveOf (base : Store ℕ) (items : List Item) (last : Head) (st
 -- The entry that such a store gets: the last part's name, key and subvolume, with the first part's
 -- parent.
 abbrev pub last_entry : Head → Head → Subvolume ℕ → Entry (Subvolume ℕ)
-last_entry first last subvolume = record { name = last.name; key = last.key; parent = first.parent; contents = Some subvolume }
+last_entry first last subvolume =
+    record { name = last.name; key = last.key; parent = first.parent; contents = Some subvolume }
 
 -- What the composed commands of items promise over a base, which is a store without the items' own
 -- parts. Nothing is said here of how commands stand in streams, so this speaks of all commands,
 -- those that no stream is read for among them. How many bytes of redirected clones are written, and
 -- how many clones stand for them, is given.
-pub record AreComposedBy (written_bytes runs : ℕ) (base : Store ℕ) (items : List Item) (commands : List Command) : Type 0 where
+pub record AreComposedBy (written_bytes runs : ℕ) (base : Store ℕ) (items : List Item)
+    (commands : List Command) : Type 0 where
   -- the first and the last part, and the subvolume that the last one makes
   pub first : Head
   pub last : Head
   pub subvolume : Subvolume ℕ
   pub first_is : first_head (heads items) ≡ Some first
   pub last_is : last_head (heads items) ≡ Some last
-  pub subvolume_is : find (completed (run_items 0 byte_cells (start_of base) items).state) last.key ≡ Some subvolume
+  pub subvolume_is : find (completed (run_items 0 byte_cells (start_of base) items).state) last.key
+      ≡ Some subvolume
   -- one stream with one part
   pub one_part : length (heads_of commands) ≡ 1
   pub one_stream : streams commands ≡ 1
   -- in whatever items they stand, each store that finds the same outside subvolumes, and has
   -- neither the last name nor uuid, takes them all, keeps what it had, and gets exactly the last
   -- part's subvolume
-  pub gets : (store : Store ℕ) → SameOn base store (keys_outside items) → has_name last.name store ≡ false → has_uuid last.key.uuid store ≡ false
+  pub gets : (store : Store ℕ) → SameOn base store (keys_outside items)
+      → has_name last.name store ≡ false → has_uuid last.key.uuid store ≡ false
       → (written : List Item) → commands_of written ≡ commands
-      → run_items 0 byte_cells (start_of store) written ≡ record { state = start_of (store ++ last_entry first last subvolume ∷ []); refused = None }
+      → run_items 0 byte_cells (start_of store) written
+      ≡ record {
+        state = start_of (store ++ last_entry first last subvolume ∷ []);
+        refused = None;
+      }
   -- they name outside subvolumes and their own part alone
-  pub names_only : AllByRecursion (λ key. IsAmong key (keys_outside items) ⊎ (key ≡ last.key)) (all_keys_named commands)
+  pub names_only : AllByRecursion (λ key. IsAmong key (keys_outside items) ⊎ (key ≡ last.key))
+      (all_keys_named commands)
   -- they carry the items' own bytes and those of cloned blocks that are written; their clones are
   -- those that are not redirected, and one for each run
   pub literal_bytes : literal commands ≡ literal (commands_of items) + written_bytes
@@ -65,11 +75,13 @@ pub record AreComposedBy (written_bytes runs : ℕ) (base : Store ℕ) (items : 
 -- Written are the blocks that no outside subvolume carries, and the runs are those of carried
 -- blocks.
 abbrev pub AreComposed : (base : Store ℕ) (items : List Item) (commands : List Command) → Type 0
-AreComposed base items commands = AreComposedBy (uncarried_cells base items) (carried_runs base items) base items commands
+AreComposed base items commands =
+    AreComposedBy (uncarried_cells base items) (carried_runs base items) base items commands
 
 -- What compose promises of what it wrote for what was read, over a base, which is the store without
 -- the parts that were read.
-pub record IsComposedBy (written_bytes runs : ℕ) (base : Store ℕ) (reading : Reading) (written : List ℕ) : Type 0 where
+pub record IsComposedBy (written_bytes runs : ℕ) (base : Store ℕ) (reading : Reading)
+    (written : List ℕ) : Type 0 where
   -- reading came to a whole end, and the parts are accepted in order, each after the first a
   -- snapshot of the one before
   pub read_whole : reading.end ≡ Whole
@@ -87,19 +99,25 @@ pub record IsComposedBy (written_bytes runs : ℕ) (base : Store ℕ) (reading :
   pub one_part : length (heads_of (commands_in written)) ≡ 1
   pub one_stream : streams (commands_in written) ≡ 1
   -- every such store accepts it, keeps what it had, and gets exactly the last part's subvolume
-  pub accepted_by : (store : Store ℕ) → CanReceiveOf base reading.items last store → IsAccepted (receive store (written ∷ []))
+  pub accepted_by : (store : Store ℕ) → CanReceiveOf base reading.items last store
+      → IsAccepted (receive store (written ∷ []))
   pub gets : (store : Store ℕ) → CanReceiveOf base reading.items last store
       → (receive store (written ∷ [])).state.store ≡ store ++ last_entry first last subvolume ∷ []
   -- it names only the outside subvolumes, beside itself
-  pub names_only : AllByRecursion (λ key. IsAmong key (keys_outside reading.items) ⊎ (key ≡ last.key)) (all_keys_named (commands_in written))
+  pub names_only : AllByRecursion
+      (λ key. IsAmong key (keys_outside reading.items) ⊎ (key ≡ last.key))
+      (all_keys_named (commands_in written))
   -- its literal bytes are those that were read and those of cloned blocks that are written
-  pub literal_bytes : literal (commands_in written) ≡ literal (commands_of reading.items) + written_bytes
+  pub literal_bytes : literal (commands_in written)
+      ≡ literal (commands_of reading.items) + written_bytes
   pub clone_count : clones (commands_in written) ≡ kept_of reading.items + runs
 
 -- Written are the blocks that no outside subvolume carries, and the runs are those of carried
 -- blocks.
 abbrev pub IsComposedOf : (base : Store ℕ) (reading : Reading) (written : List ℕ) → Type 0
-IsComposedOf base reading written = IsComposedBy (uncarried_cells base reading.items) (carried_runs base reading.items) base reading written
+IsComposedOf base reading written =
+    IsComposedBy (uncarried_cells base reading.items)
+    (carried_runs base reading.items) base reading written
 
 -- So it is of files.
 abbrev pub IsComposed : (base : Store ℕ) (files : List (List ℕ)) (written : List ℕ) → Type 0
@@ -120,11 +138,13 @@ stream_front version (c ∷ cs) = stream_header version ++ canonical_all version
 -- or, where a command is unlawful or reading ended at a fault, what the commands before that place
 -- are composed to, without END. And so for files.
 abbrev pub output_by : Option Verdict → (whole before : List Command) → List Item → List ℕ
-output_by None whole before items = stream_header (version_of items) ++ canonical_all (version_of items) whole
+output_by None whole before items =
+    stream_header (version_of items) ++ canonical_all (version_of items) whole
 output_by (Some verdict) whole before items = stream_front (version_of items) before
 
 abbrev pub output_of : Option Verdict → Store ℕ → List Item → List ℕ
-output_of verdict base items = output_by verdict (composed_of base items) (composed_before_of base items) items
+output_of verdict base items =
+    output_by verdict (composed_of base items) (composed_before_of base items) items
 
 abbrev pub output_for : Option Verdict → Store ℕ → List (List ℕ) → List ℕ
 output_for verdict base files = output_of verdict base (input files).items

@@ -40,32 +40,43 @@ KeepsLawfulness change = (s after : Subvolume _) → IsLawful s → change s ≡
 
 -- An edit by a command that a version can say makes a subvolume that can be said of each that can.
 abbrev pub EditsKeepSayable : Type 0
-EditsKeepSayable = (version : ℕ) (c : Command) (s after : Subvolume ℕ) → IsSpellable version c → IsSayable s
+EditsKeepSayable =
+    (version : ℕ) (c : Command) (s after : Subvolume ℕ) → IsSpellable version c → IsSayable s
     → edit 0 (bytes_of c) c s ≡ Ok after → IsSayable after
 
 -- Whatever is received into a lawful store leaves a lawful one, wherever it ends.
 abbrev pub ReceivedIsLawful : Type 0
-ReceivedIsLawful = (store : Store ℕ) (items : List Item) → IsLawfulStore store → AllByRecursion (λ item. IsSpellable item.version item.command) items
+ReceivedIsLawful =
+    (store : Store ℕ) (items : List Item) → IsLawfulStore store
+    → AllByRecursion (λ item. IsSpellable item.version item.command) items
     → IsLawfulStore (completed (run_items 0 byte_cells (start_of store) items).state)
     × IsLawfulStore (run_items 0 byte_cells (start_of store) items).state.store
 
 -- So it is of files of bytes.
 abbrev pub FilesLeaveLawful : Type 0
-FilesLeaveLawful = (store : Store ℕ) (files : List (List ℕ)) → IsLawfulStore store → AllByRecursion IsBytes files
-    → IsLawfulStore (completed (receive store files).state) × IsLawfulStore (receive store files).state.store
+FilesLeaveLawful =
+    (store : Store ℕ) (files : List (List ℕ)) → IsLawfulStore store → AllByRecursion IsBytes files
+    → IsLawfulStore (completed (receive store files).state)
+    × IsLawfulStore (receive store files).state.store
 
 -- What a lawful store finds can be said, whatever entries are left out: it meets what the headline
 -- asks of a base.
 abbrev pub LawfulFindsSayable : Type 0
-LawfulFindsSayable = (store : Store ℕ) (files : List (List ℕ)) (keys : List Key) → IsLawfulStore store → FindsSayable (base store files) keys
+LawfulFindsSayable =
+    (store : Store ℕ) (files : List (List ℕ)) (keys : List Key) → IsLawfulStore store
+    → FindsSayable (base store files) keys
 
 -- Each complete subvolume of a lawful store can be said, and so each of what is left of it without
 -- some uuids: it meets what composing over a base asks.
 abbrev pub LawfulAllSayable : Type 0
-LawfulAllSayable = (store : Store ℕ) → IsLawfulStore store → AllSayable store × ((uuids : List (List ℕ)) → AllSayable (store_without uuids store))
+LawfulAllSayable =
+    (store : Store ℕ) → IsLawfulStore store
+    → AllSayable store × ((uuids : List (List ℕ)) → AllSayable (store_without uuids store))
 
 -- The headline over a lawful store.
 abbrev pub LawfulStoresHold : Type 0
-LawfulStoresHold = (store : Store ℕ) (files : List (List ℕ)) → IsLawfulStore store → AllByRecursion IsBytes files → (input files).end ≡ Whole
+LawfulStoresHold =
+    (store : Store ℕ) (files : List (List ℕ)) → IsLawfulStore store → AllByRecursion IsBytes files
+    → (input files).end ≡ Whole
     → IsConsecutive (input files).items → IsAccepted (receive (base store files) files)
     → IsComposed (base store files) files (output_for None (base store files) files)

@@ -55,7 +55,8 @@ only_ends (Faulty verdict) = is_truncated verdict.refusal
 -- A file, which is the given one of several, is too long where it has as many bytes as are read at
 -- the most, and these bytes are read whole or are cut short.
 unfoldable pub is_too_long : ℕ → List ℕ → Bool
-is_too_long number bytes = nat_le limit (length bytes) && only_ends (reads number (take limit bytes)).end
+is_too_long number bytes =
+    nat_le limit (length bytes) && only_ends (reads number (take limit bytes)).end
 
 -- What comes after a file, unless its reading ends in a fault.
 abbrev pub unless_faulty : Ending → Option ℕ → Option ℕ
@@ -67,7 +68,8 @@ unless_faulty (Faulty verdict) after = None
 unfoldable pub too_long_from : ℕ → List (List ℕ) → Option ℕ
 too_long_from number [] = None
 too_long_from number (bytes ∷ files) =
-    if is_too_long number bytes then Some number else unless_faulty (reads number bytes).end (too_long_from (number + 1) files)
+    if is_too_long number bytes then Some number else unless_faulty (reads number bytes).end
+    (too_long_from (number + 1) files)
 
 unfoldable pub too_long : List (List ℕ) → Option ℕ
 too_long files = too_long_from 1 files

@@ -14,12 +14,17 @@ use Rattle.send_model.specs.Counts.{is_end}
 -- The names under which the values of attributes are printed.
 abbrev pub value_names : Map ℕ (List ℕ)
 value_names =
-    (UUID, codes "uuid") ∷ (CTRANSID, codes "ctransid") ∷ (SIZE, codes "size") ∷ (MODE, codes "mode") ∷ (UID, codes "uid")
-    ∷ (GID, codes "gid") ∷ (RDEV, codes "rdev") ∷ (MTIME, codes "mtime") ∷ (ATIME, codes "atime") ∷ (XATTR_NAME, codes "xattr")
-    ∷ (XATTR_DATA, codes "value") ∷ (PATH, codes "path") ∷ (PATH_TO, codes "to") ∷ (PATH_LINK, codes "link")
+    (UUID, codes "uuid") ∷ (CTRANSID, codes "ctransid") ∷ (SIZE, codes "size")
+    ∷ (MODE, codes "mode") ∷ (UID, codes "uid")
+    ∷ (GID, codes "gid") ∷ (RDEV, codes "rdev") ∷ (MTIME, codes "mtime") ∷ (ATIME, codes "atime")
+    ∷ (XATTR_NAME, codes "xattr")
+    ∷ (XATTR_DATA, codes "value") ∷ (PATH, codes "path") ∷ (PATH_TO, codes "to")
+    ∷ (PATH_LINK, codes "link")
     ∷ (FILE_OFFSET, codes "offset") ∷ (DATA, codes "data") ∷ (CLONE_UUID, codes "clone_uuid")
-    ∷ (CLONE_CTRANSID, codes "clone_ctransid") ∷ (CLONE_PATH, codes "clone_path") ∷ (CLONE_OFFSET, codes "clone_offset")
-    ∷ (CLONE_LEN, codes "clone_len") ∷ (FALLOCATE_MODE, codes "fmode") ∷ (FILE_FLAGS, codes "flags") ∷ []
+    ∷ (CLONE_CTRANSID, codes "clone_ctransid") ∷ (CLONE_PATH, codes "clone_path")
+    ∷ (CLONE_OFFSET, codes "clone_offset")
+    ∷ (CLONE_LEN, codes "clone_len") ∷ (FALLOCATE_MODE, codes "fmode") ∷ (FILE_FLAGS, codes "flags")
+    ∷ []
 
 -- A value: the mode of a file in octal, other numbers in decimal; names and paths escaped; the
 -- contents of a file or of an extended attribute in a form that is given.
@@ -28,12 +33,14 @@ value_with contents kind (Identifier bytes) = uuid_text bytes
 value_with contents kind (Number n) = if kind == MODE then octal n else decimal n
 value_with contents kind (ShortNumber n) = decimal n
 value_with contents kind (Moment t) = time_text t
-value_with contents kind (Bytes bytes) = if is_one_of kind (XATTR_DATA ∷ DATA ∷ []) then contents bytes else escaped bytes
+value_with contents kind (Bytes bytes) =
+    if is_one_of kind (XATTR_DATA ∷ DATA ∷ []) then contents bytes else escaped bytes
 
 -- Each value after a space, with its name.
 abbrev pub values_with : (List ℕ → List ℕ) → List ℕ → List Field → List ℕ
 values_with contents (kind ∷ kinds) (field ∷ fields) =
-    0x20 ∷ unwrap_or (value_at nat_cmp kind value_names) [] ++ 0x3d ∷ value_with contents kind field ++ values_with contents kinds fields
+    0x20 ∷ unwrap_or (value_at nat_cmp kind value_names) [] ++ 0x3d ∷ value_with contents kind field
+    ++ values_with contents kinds fields
 values_with contents [] [] = []
 values_with contents [] (field ∷ fields) = []
 values_with contents (kind ∷ kinds) [] = []
@@ -63,7 +70,8 @@ stream_line version = codes "stream " ++ decimal version ++ 0x0a ∷ []
 unfoldable pub lines_from : Bool → List Item → List ℕ
 lines_from begins [] = []
 lines_from begins (item ∷ items) =
-    (if begins then stream_line item.version else []) ++ command_line item ++ lines_from (is_end item.command) items
+    (if begins then stream_line item.version else []) ++ command_line item
+    ++ lines_from (is_end item.command) items
 
 -- What is printed of a file: the lines of all that is read of it.
 unfoldable pub dump_of : List ℕ → List ℕ

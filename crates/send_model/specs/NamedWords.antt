@@ -45,28 +45,38 @@ unfoldable pub files_from : Option (List ℕ) → ℕ → List (List ℕ) → Op
 files_from None at [] = Some []
 files_from (Some name) at [] = None
 files_from None at (word ∷ words) =
-    if is_name_word word then (elim (new_name word) [ None ↦ None | Some name ↦ files_from (Some name) (at + 1) words ])
+    if is_name_word word then
+    (elim (new_name word) [ None ↦ None | Some name ↦ files_from (Some name) (at + 1) words ])
     else onto_files (record { at = at; name = None }) (files_from None (at + 1) words)
 files_from (Some name) at (word ∷ words) =
-    if is_name_word word then None else onto_files (record { at = at; name = Some name }) (files_from None (at + 1) words)
+    if is_name_word word then None else onto_files (record { at = at; name = Some name })
+    (files_from None (at + 1) words)
 
 -- A store, and behind it at least one file.
-abbrev pub with_files : (List GivenFile → NamedRequest) → Option (List GivenFile) → Option NamedRequest
+abbrev pub with_files : (List GivenFile → NamedRequest) → Option (List GivenFile)
+    → Option NamedRequest
 with_files request None = None
 with_files request (Some []) = None
 with_files request (Some (file ∷ files)) = Some (request (file ∷ files))
 
-abbrev pub store_and_given : (ℕ → List GivenFile → NamedRequest) → ℕ → List (List ℕ) → Option NamedRequest
+abbrev pub store_and_given : (ℕ → List GivenFile → NamedRequest) → ℕ → List (List ℕ)
+    → Option NamedRequest
 store_and_given request at [] = None
-store_and_given request at (store ∷ words) = with_files (request at) (files_from None (at + 1) words)
+store_and_given request at (store ∷ words) =
+    with_files (request at) (files_from None (at + 1) words)
 
 -- Guard words, and behind them a store and files: the first word that does not begin as a guard's
 -- is the store.
-unfoldable pub guards_and_given : (List GuardSpec → ℕ → List GivenFile → NamedRequest) → ℕ → List (List ℕ) → Option NamedRequest
+unfoldable pub guards_and_given : (List GuardSpec → ℕ → List GivenFile → NamedRequest) → ℕ
+    → List (List ℕ) → Option NamedRequest
 guards_and_given request at [] = None
 guards_and_given request at (word ∷ words) =
     if is_guard_word word
-    then (elim (guard_of word) [ None ↦ None | Some guard ↦ guards_and_given (λ guards. request (guard ∷ guards)) (at + 1) words ])
+    then (elim (guard_of word) [
+      | None ↦ None
+      | Some guard ↦
+          guards_and_given (λ guards. request (guard ∷ guards)) (at + 1) words
+    ])
     else store_and_given (request []) at (word ∷ words)
 
 -- `compose STORE [name:NEW] FILE ..`, `export STORE [name:NEW] FILE ..`, `audit [GUARD..] STORE
@@ -93,17 +103,23 @@ sources_as given files = overridden_sources (names_of given) (sources files)
 -- The answer that is due over a base, for the bytes of the files. To receive it is what is due to
 -- an audit, unless the store is full.
 unfoldable pub named_due : NamedRequest → Store ℕ → List (List ℕ) → Due
-named_due (ComposeAs store given) base files = due_of (Compose store 0) base (sources_as given files)
-named_due (AuditAs guards store given) base files = due_of (Audit guards store 0) base (sources_as given files)
+named_due (ComposeAs store given) base files =
+    due_of (Compose store 0) base (sources_as given files)
+named_due (AuditAs guards store given) base files =
+    due_of (Audit guards store 0) base (sources_as given files)
 named_due (ExportAs store given) base files = due_of (Export store 0) base (sources_as given files)
-named_due (ReceiveAs guards store given) base files = due_of (Audit guards store 0) base (sources_as given files)
+named_due (ReceiveAs guards store given) base files =
+    due_of (Audit guards store 0) base (sources_as given files)
 named_due (Plain request) base files = due request base files
 
 -- All that a request may write to standard output. The lines of receive stand with the store.
 unfoldable pub named_whole : NamedRequest → Store ℕ → List (List ℕ) → List ℕ
-named_whole (ComposeAs store given) base files = whole_from (Compose store 0) base (sources_as given files)
-named_whole (AuditAs guards store given) base files = whole_from (Audit guards store 0) base (sources_as given files)
-named_whole (ExportAs store given) base files = whole_from (Export store 0) base (sources_as given files)
+named_whole (ComposeAs store given) base files =
+    whole_from (Compose store 0) base (sources_as given files)
+named_whole (AuditAs guards store given) base files =
+    whole_from (Audit guards store 0) base (sources_as given files)
+named_whole (ExportAs store given) base files =
+    whole_from (Export store 0) base (sources_as given files)
 named_whole (ReceiveAs guards store given) base files = []
 named_whole (Plain request) base files = whole_of request base files
 
@@ -115,14 +131,18 @@ places_from at [] = []
 places_from at (word ∷ words) = record { at = at; name = None } ∷ places_from (at + 1) words
 
 abbrev pub PlainFilesAreGiven : Type 0
-PlainFilesAreGiven = (at : ℕ) (words : List (List ℕ)) → AllByRecursion (λ word. is_name_word word ≡ false) words
+PlainFilesAreGiven =
+    (at : ℕ) (words : List (List ℕ)) → AllByRecursion (λ word. is_name_word word ≡ false) words
     → files_from None at words ≡ Some (places_from at words)
 
 -- Each name that is given is one that an attribute has room for, where the words are bytes.
 abbrev pub GivenNamesFit : Type 0
-GivenNamesFit = (at : ℕ) (words : List (List ℕ)) (given : List GivenFile) → AllByRecursion IsBytes words → files_from None at words ≡ Some given
+GivenNamesFit =
+    (at : ℕ) (words : List (List ℕ)) (given : List GivenFile) → AllByRecursion IsBytes words
+    → files_from None at words ≡ Some given
     → AreLawfulOverrides (names_of given)
 
 -- And each that an attribute has room for can be given.
 abbrev pub ShortNamesAreGiven : Type 0
-ShortNamesAreGiven = (word : List ℕ) → length (drop 5 word) < 2 ^ 16 → new_name word ≡ Some (drop 5 word)
+ShortNamesAreGiven =
+    (word : List ℕ) → length (drop 5 word) < 2 ^ 16 → new_name word ≡ Some (drop 5 word)

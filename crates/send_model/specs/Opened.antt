@@ -18,7 +18,8 @@ use Rattle.send_model.specs.Receive.{bytes_of}
 -- all others go by their path alone.
 abbrev pub written_path : Command → Option (List ℕ)
 written_path (Write path offset bytes) = Some path
-written_path (Clone path offset clone_uuid clone_ctransid clone_path clone_offset clone_len) = Some path
+written_path (Clone path offset clone_uuid clone_ctransid clone_path clone_offset clone_len) =
+    Some path
 written_path (Fallocate size path offset mode) = Some path
 written_path (Subvol uuid ctransid path) = None
 written_path (Snapshot uuid ctransid path clone_uuid clone_ctransid) = None
@@ -60,13 +61,20 @@ kept_for opened command = kept_at opened (written_path command)
 -- The file that is open after a path was opened in a part.
 abbrev pub opened_at : {C : Type 0} → Option (Part C) → List ℕ → Option Opened
 opened_at None path = None
-opened_at (Some part) path = elim (walk part.subvolume path) [ Err refusal ↦ None | Ok ino ↦ Some (record { path = path; ino = ino }) ]
+opened_at (Some part) path =
+    elim (walk part.subvolume path) [
+      | Err refusal ↦ None
+      | Ok ino ↦
+          Some (record { path = path; ino = ino })
+    ]
 
 -- The file that is open after a command: none after a head or END; after one that writes, the one
 -- that it wrote to.
-abbrev pub open_after : {C : Type 0} → Option Opened → Option (Part C) → Option (List ℕ) → Option Opened
+abbrev pub open_after : {C : Type 0} → Option Opened → Option (Part C) → Option (List ℕ)
+    → Option Opened
 open_after opened part None = opened
-open_after opened part (Some path) = elim (kept_at opened (Some path)) [ Some ino ↦ opened | None ↦ opened_at part path ]
+open_after opened part (Some path) =
+    elim (kept_at opened (Some path)) [ Some ino ↦ opened | None ↦ opened_at part path ]
 
 abbrev pub opened_after : {C : Type 0} → Option Opened → Option (Part C) → Command → Option Opened
 opened_after opened part (Subvol uuid ctransid path) = None
@@ -83,22 +91,28 @@ opened_after opened part (Unlink path) = opened
 opened_after opened part (Rmdir path) = opened
 opened_after opened part (SetXattr name value path) = opened
 opened_after opened part (RemoveXattr name path) = opened
-opened_after opened part (Write path offset bytes) = open_after opened part (written_path (Write path offset bytes))
-opened_after opened part (Clone path offset clone_uuid clone_ctransid clone_path clone_offset clone_len) = open_after opened part (written_path (Clone path offset clone_uuid clone_ctransid clone_path clone_offset clone_len))
+opened_after opened part (Write path offset bytes) =
+    open_after opened part (written_path (Write path offset bytes))
+opened_after opened part
+    (Clone path offset clone_uuid clone_ctransid clone_path clone_offset clone_len) =
+    open_after opened part
+    (written_path (Clone path offset clone_uuid clone_ctransid clone_path clone_offset clone_len))
 opened_after opened part (Truncate size path) = opened
 opened_after opened part (Chmod mode path) = opened
 opened_after opened part (Chown uid gid path) = opened
 opened_after opened part (Utimes mtime atime path) = opened
 opened_after opened part End = None
 opened_after opened part (UpdateExtent size path offset) = opened
-opened_after opened part (Fallocate size path offset mode) = open_after opened part (written_path (Fallocate size path offset mode))
+opened_after opened part (Fallocate size path offset mode) =
+    open_after opened part (written_path (Fallocate size path offset mode))
 opened_after opened part (FileAttr path flags) = opened
 
 -- ---- the receiver's step
 
 -- What a command does that writes to an open file. Where its inode is gone, nothing in the
 -- subvolume changes.
-unfoldable pub edit_open : {C : Type 0} → C → List C → Store C → Part C → ℕ → Command → Result (Subvolume C) Refusal
+unfoldable pub edit_open : {C : Type 0} → C → List C → Store C → Part C → ℕ → Command
+    → Result (Subvolume C) Refusal
 edit_open zero_cell put store part ino (Write path offset bytes) = do
   require (nat_le (offset + length put) greatest_end) FileTooBig
   Ok (change_inode ino (set_cells (written_at zero_cell offset put)) part.subvolume)
@@ -106,17 +120,23 @@ edit_open zero_cell put store part ino (Fallocate size path offset mode) = do
   allocation ← found (allocation_of mode) (BadFallocate mode)
   require (nat_le (offset + size) greatest_end) FileTooBig
   Ok (change_inode ino (set_cells (fallocated zero_cell allocation offset size)) part.subvolume)
-edit_open zero_cell put store part ino (Clone path offset clone_uuid clone_ctransid clone_path from len) = do
-  other ← found (clone_source store part (key_of clone_uuid clone_ctransid)) NoSource
-  source_ino ← walk other clone_path
-  require (is_file other source_ino) NotFile
-  refuse_if ((len == 0) || nat_lt (length (cells_of other source_ino)) (from + len)) BadRange
-  require (is_aligned offset from len (length (cells_of other source_ino))) Unaligned
-  require (nat_le (offset + len) greatest_end) FileTooBig
-  refuse_if (bytes_eq clone_uuid part.key.uuid && (source_ino == ino) && overlap offset from len) Overlap
-  Ok (change_inode ino (set_cells (overwritten zero_cell offset (take len (drop from (cells_of other source_ino))))) part.subvolume)
+edit_open zero_cell put store part ino
+    (Clone path offset clone_uuid clone_ctransid clone_path from len) = do
+      other ← found (clone_source store part (key_of clone_uuid clone_ctransid)) NoSource
+      source_ino ← walk other clone_path
+      require (is_file other source_ino) NotFile
+      refuse_if ((len == 0) || nat_lt (length (cells_of other source_ino)) (from + len)) BadRange
+      require (is_aligned offset from len (length (cells_of other source_ino))) Unaligned
+      require (nat_le (offset + len) greatest_end) FileTooBig
+      refuse_if (bytes_eq clone_uuid part.key.uuid && (source_ino == ino)
+          && overlap offset from len) Overlap
+      Ok (change_inode ino
+          (set_cells
+          (overwritten zero_cell offset
+          (take len (drop from (cells_of other source_ino))))) part.subvolume)
 edit_open zero_cell put store part ino (Subvol uuid ctransid path) = Ok part.subvolume
-edit_open zero_cell put store part ino (Snapshot uuid ctransid path clone_uuid clone_ctransid) = Ok part.subvolume
+edit_open zero_cell put store part ino (Snapshot uuid ctransid path clone_uuid clone_ctransid) =
+    Ok part.subvolume
 edit_open zero_cell put store part ino (MkFile path) = Ok part.subvolume
 edit_open zero_cell put store part ino (MkDir path) = Ok part.subvolume
 edit_open zero_cell put store part ino (MkNod mode rdev path) = Ok part.subvolume
@@ -157,18 +177,26 @@ stepped_by zero_cell put r command None = step zero_cell put r.state command
 unfoldable pub receiver_step : {C : Type 0} → C → List C → Receiver C → Command → After (Receiver C)
 receiver_step zero_cell put r command =
     let after = stepped_by zero_cell put r command (kept_for r.opened command) in
-    record { state = record { state = after.state; opened = opened_after r.opened r.state.part command }; refusal = after.refusal }
+    record {
+      state = record {
+        state = after.state;
+        opened = opened_after r.opened r.state.part command;
+      };
+      refusal = after.refusal;
+    }
 
 -- ---- what goes astray
 
 -- The open file is not the one that the path names.
 abbrev pub leads_elsewhere : {C : Type 0} → Option (Part C) → ℕ → List ℕ → Bool
 leads_elsewhere None ino path = false
-leads_elsewhere (Some part) ino path = elim (walk part.subvolume path) [ Err refusal ↦ false | Ok now ↦ not (now == ino) ]
+leads_elsewhere (Some part) ino path =
+    elim (walk part.subvolume path) [ Err refusal ↦ false | Ok now ↦ not (now == ino) ]
 
 abbrev pub is_astray_at : {C : Type 0} → Option Opened → Option (Part C) → Option (List ℕ) → Bool
 is_astray_at opened part None = false
-is_astray_at opened part (Some path) = elim (kept_at opened (Some path)) [ None ↦ false | Some ino ↦ leads_elsewhere part ino path ]
+is_astray_at opened part (Some path) =
+    elim (kept_at opened (Some path)) [ None ↦ false | Some ino ↦ leads_elsewhere part ino path ]
 
 -- A command would be written to a file that its path does not name.
 unfoldable pub is_astray : {C : Type 0} → Option Opened → State C → Command → Bool
@@ -179,4 +207,5 @@ unfoldable pub AreSteady : Option Opened → State ℕ → List Command → Type
 AreSteady opened state [] = Unit {0}
 AreSteady opened state (command ∷ commands) =
     (is_astray opened state command ≡ false)
-    × AreSteady (opened_after opened state.part command) (step 0 (bytes_of command) state command).state commands
+    × AreSteady (opened_after opened state.part command)
+    (step 0 (bytes_of command) state command).state commands

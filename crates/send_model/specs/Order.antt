@@ -60,9 +60,11 @@ then_judge item stepped breaks rest = elim stepped.refusal [
 ]
 
 -- The first item that its step refuses or, else, whose head breaks the order.
-unfoldable pub judge_items : {C : Type 0} → C → (Item → List C) → State C → Option Key → List Item → Option Verdict
+unfoldable pub judge_items : {C : Type 0} → C → (Item → List C) → State C → Option Key → List Item
+    → Option Verdict
 judge_items zero_cell cells state previous [] = None
-judge_items zero_cell cells state previous (item ∷ items) = let stepped = step zero_cell (cells item) state item.command in
+judge_items zero_cell cells state previous (item ∷ items) = let stepped =
+    step zero_cell (cells item) state item.command in
     then_judge item stepped (breaks_order previous (head_of item.command))
     (judge_items zero_cell cells stepped.state (part_after previous (head_of item.command)) items)
 
@@ -73,11 +75,13 @@ last_item (item ∷ more ∷ items) = last_item (more ∷ items)
 
 -- Where files read as whole and hold no part, the breach stands at their last END.
 abbrev pub without_parts : List Item → List Head → Option Verdict
-without_parts items [] = elim (last_item items) [ None ↦ None | Some item ↦ Some (verdict_of item NotConsecutive) ]
+without_parts items [] =
+    elim (last_item items) [ None ↦ None | Some item ↦ Some (verdict_of item NotConsecutive) ]
 without_parts items (head ∷ rest) = None
 
 -- The verdict on what was read, received into a store: nothing where all of it is taken in order.
-unfoldable pub judge_reading : {C : Type 0} → C → (Item → List C) → Store C → Reading → Option Verdict
+unfoldable pub judge_reading : {C : Type 0} → C → (Item → List C) → Store C → Reading
+    → Option Verdict
 judge_reading zero_cell cells store reading =
     first_of (judge_items zero_cell cells (start_of store) None reading.items)
     (first_of (fault_of reading.end) (without_parts reading.items (heads reading.items)))
@@ -97,9 +101,11 @@ then_lawful item stepped breaks rest = elim stepped.refusal [
 
 -- The items before the first that its step refuses or whose head breaks the order; all of them,
 -- where there is none.
-unfoldable pub lawful_items : {C : Type 0} → C → (Item → List C) → State C → Option Key → List Item → List Item
+unfoldable pub lawful_items : {C : Type 0} → C → (Item → List C) → State C → Option Key → List Item
+    → List Item
 lawful_items zero_cell cells state previous [] = []
-lawful_items zero_cell cells state previous (item ∷ items) = let stepped = step zero_cell (cells item) state item.command in
+lawful_items zero_cell cells state previous (item ∷ items) = let stepped =
+    step zero_cell (cells item) state item.command in
     then_lawful item stepped (breaks_order previous (head_of item.command))
     (lawful_items zero_cell cells stepped.state (part_after previous (head_of item.command)) items)
 

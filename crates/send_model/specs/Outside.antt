@@ -32,8 +32,10 @@ base store files = base_of store (input files).items
 
 -- The key that a command names beside its own: a parent or the source of a clone.
 abbrev pub keys_named : Command → List Key
-keys_named (Snapshot uuid ctransid path clone_uuid clone_ctransid) = record { uuid = clone_uuid; ctransid = clone_ctransid } ∷ []
-keys_named (Clone path offset clone_uuid clone_ctransid clone_path clone_offset clone_len) = record { uuid = clone_uuid; ctransid = clone_ctransid } ∷ []
+keys_named (Snapshot uuid ctransid path clone_uuid clone_ctransid) =
+    record { uuid = clone_uuid; ctransid = clone_ctransid } ∷ []
+keys_named (Clone path offset clone_uuid clone_ctransid clone_path clone_offset clone_len) =
+    record { uuid = clone_uuid; ctransid = clone_ctransid } ∷ []
 keys_named (Subvol uuid ctransid path) = []
 keys_named (MkFile path) = []
 keys_named (MkDir path) = []
@@ -62,7 +64,8 @@ all_keys_named commands = flat_map keys_named commands
 
 -- The keys that items name and that are no part's, and of files.
 abbrev pub keys_outside : List Item → List Key
-keys_outside items = filter (λ key. not (is_among (part_uuids items) key.uuid)) (all_keys_named (commands_of items))
+keys_outside items =
+    filter (λ key. not (is_among (part_uuids items) key.uuid)) (all_keys_named (commands_of items))
 
 abbrev pub outside : List (List ℕ) → List Key
 outside files = keys_outside (input files).items
@@ -78,7 +81,8 @@ SameOn s t keys = AllByRecursion (λ key. find s key ≡ find t key) keys
 
 -- Each complete subvolume that a store finds under one of the keys is lawful.
 abbrev pub FindsLawful : Store ℕ → List Key → Type 0
-FindsLawful store keys = (key : Key) (s : Subvolume ℕ) → IsAmong key keys → find store key ≡ Some s → IsLawful s
+FindsLawful store keys =
+    (key : Key) (s : Subvolume ℕ) → IsAmong key keys → find store key ≡ Some s → IsLawful s
 
 -- What the format can say of a subvolume: it is lawful, its names and its contents are bytes, and
 -- no file is too big.
@@ -89,7 +93,8 @@ pub record IsSayable (s : Subvolume ℕ) : Type 0 where
   pub sizes : AllByRecursion (λ e. length e.1.cells ≤ greatest_end) s.inodes
 
 abbrev pub FindsSayable : Store ℕ → List Key → Type 0
-FindsSayable store keys = (key : Key) (s : Subvolume ℕ) → IsAmong key keys → find store key ≡ Some s → IsSayable s
+FindsSayable store keys =
+    (key : Key) (s : Subvolume ℕ) → IsAmong key keys → find store key ≡ Some s → IsSayable s
 
 -- Each complete subvolume of a store is one that the format can say.
 abbrev pub AllSayable : Store ℕ → Type 0

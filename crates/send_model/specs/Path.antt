@@ -23,7 +23,8 @@ onto_first b (piece ∷ pieces) = (b ∷ piece) ∷ pieces
 -- The pieces between the slashes.
 unfoldable pub between_slashes : List ℕ → List (List ℕ)
 between_slashes [] = [] ∷ []
-between_slashes (b ∷ bytes) = if b == slash then [] ∷ between_slashes bytes else onto_first b (between_slashes bytes)
+between_slashes (b ∷ bytes) =
+    if b == slash then [] ∷ between_slashes bytes else onto_first b (between_slashes bytes)
 
 abbrev pub longest_path : ℕ
 longest_path = 4_095

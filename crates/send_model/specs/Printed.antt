@@ -31,7 +31,8 @@ hex_bytes bytes = flat_map hex_byte bytes
 
 unfoldable pub uuid_text : List ℕ → List ℕ
 uuid_text bytes =
-    hex_bytes (take 4 bytes) ++ 0x2d ∷ hex_bytes (take 2 (drop 4 bytes)) ++ 0x2d ∷ hex_bytes (take 2 (drop 6 bytes))
+    hex_bytes (take 4 bytes) ++ 0x2d ∷ hex_bytes (take 2 (drop 4 bytes))
+    ++ 0x2d ∷ hex_bytes (take 2 (drop 6 bytes))
     ++ 0x2d ∷ hex_bytes (take 2 (drop 8 bytes)) ++ 0x2d ∷ hex_bytes (drop 10 bytes)
 
 -- Octal digits, without zeros in front.
@@ -40,4 +41,5 @@ octal n = digits 8 false n
 
 -- Seconds, a point, and nine digits of nanoseconds.
 unfoldable pub time_text : Time → List ℕ
-time_text t = decimal t.secs ++ 0x2e ∷ replicate (9 - length (decimal t.nanos)) 0x30 ++ decimal t.nanos
+time_text t =
+    decimal t.secs ++ 0x2e ∷ replicate (9 - length (decimal t.nanos)) 0x30 ++ decimal t.nanos

@@ -34,7 +34,8 @@ fresh byte = record { byte = byte; place = None }
 abbrev pub traced_from : Key → ℕ → ℕ → List ℕ → List Traced
 traced_from key ino offset [] = []
 traced_from key ino offset (byte ∷ bytes) =
-    record { byte = byte; place = Some (record { key = key; ino = ino; offset = offset }) } ∷ traced_from key ino (offset + 1) bytes
+    record { byte = byte; place = Some (record { key = key; ino = ino; offset = offset }) }
+    ∷ traced_from key ino (offset + 1) bytes
 
 abbrev pub inode_with : {C D : Type 0} → Inode C → List D → Inode D
 inode_with inode cells = record {
@@ -53,7 +54,12 @@ inode_with inode cells = record {
 
 -- A subvolume with other cells in its files, by their inode numbers.
 abbrev pub with_cells : {C D : Type 0} → (ℕ → List C → List D) → Subvolume C → Subvolume D
-with_cells change s = record { inodes = map (λ e. (e.0, inode_with e.1 (change e.0 e.1.cells))) s.inodes; names = s.names; next = s.next }
+with_cells change s =
+    record {
+      inodes = map (λ e. (e.0, inode_with e.1 (change e.0 e.1.cells))) s.inodes;
+      names = s.names;
+      next = s.next;
+    }
 
 unfoldable pub traced_subvolume : Key → Subvolume ℕ → Subvolume Traced
 traced_subvolume key s = with_cells (λ ino cells. traced_from key ino 0 cells) s
@@ -94,7 +100,8 @@ uuid_after current (Rmdir path) = current
 uuid_after current (SetXattr name value path) = current
 uuid_after current (RemoveXattr name path) = current
 uuid_after current (Write path offset bytes) = current
-uuid_after current (Clone path offset clone_uuid clone_ctransid clone_path clone_offset clone_len) = current
+uuid_after current (Clone path offset clone_uuid clone_ctransid clone_path clone_offset clone_len) =
+    current
 uuid_after current (Truncate size path) = current
 uuid_after current (Chmod mode path) = current
 uuid_after current (Chown uid gid path) = current
@@ -109,7 +116,8 @@ is_own (Some own) uuid = bytes_eq own uuid
 
 -- A clone is redirected where its source is another part of the same files.
 abbrev pub is_redirected : List (List ℕ) → Option (List ℕ) → Command → Bool
-is_redirected parts current (Clone path offset clone_uuid clone_ctransid clone_path clone_offset clone_len) =
+is_redirected parts current
+    (Clone path offset clone_uuid clone_ctransid clone_path clone_offset clone_len) =
     is_among parts clone_uuid && not (is_own current clone_uuid)
 is_redirected parts current (Subvol uuid ctransid path) = false
 is_redirected parts current (Snapshot uuid ctransid path clone_uuid clone_ctransid) = false
@@ -137,14 +145,18 @@ is_redirected parts current (FileAttr path flags) = false
 
 -- The cells that a CLONE puts at its place in the current part; none where it is refused.
 unfoldable pub clone_range : {C : Type 0} → State C → Command → List C
-clone_range state (Clone path offset clone_uuid clone_ctransid clone_path clone_offset clone_len) = elim state.part [
-  | None ↦ []
-  | Some part ↦ elim (cloned part.subvolume (clone_source state.store part (record { uuid = clone_uuid; ctransid = clone_ctransid }))
-      (bytes_eq clone_uuid part.key.uuid) (clone_values path offset clone_path clone_offset clone_len)) [
-        | Err refusal ↦ []
-        | Ok range ↦ range.cells
-      ]
-]
+clone_range state (Clone path offset clone_uuid clone_ctransid clone_path clone_offset clone_len) =
+    elim state.part [
+      | None ↦ []
+      | Some part ↦
+          elim (cloned part.subvolume
+          (clone_source state.store part (record { uuid = clone_uuid; ctransid = clone_ctransid }))
+          (bytes_eq clone_uuid part.key.uuid)
+          (clone_values path offset clone_path clone_offset clone_len)) [
+            | Err refusal ↦ []
+            | Ok range ↦ range.cells
+          ]
+    ]
 clone_range state (Subvol uuid ctransid path) = []
 clone_range state (Snapshot uuid ctransid path clone_uuid clone_ctransid) = []
 clone_range state (MkFile path) = []
@@ -174,10 +186,12 @@ traced_step state item = step (fresh 0) (fresh_cells item) state item.command
 
 -- What is asked of each redirected clone among items, in order, from the state before it; it is
 -- given what an item makes of a state.
-unfoldable pub redirected_by : {S R : Type 0} → (S → Item → S) → (S → Command → R) → List (List ℕ) → S → Option (List ℕ) → List Item → List R
+unfoldable pub redirected_by : {S R : Type 0} → (S → Item → S) → (S → Command → R) → List (List ℕ)
+    → S → Option (List ℕ) → List Item → List R
 redirected_by does asked parts state current [] = []
 redirected_by does asked parts state current (item ∷ items) =
-    let others = redirected_by does asked parts (does state item) (uuid_after current item.command) items in
+    let others = redirected_by does asked parts (does state item)
+    (uuid_after current item.command) items in
     if is_redirected parts current item.command then asked state item.command ∷ others else others
 
 -- What an item makes of a traced state.
@@ -185,9 +199,11 @@ abbrev pub traced_after : State Traced → Item → State Traced
 traced_after state item = (traced_step state item).state
 
 -- The ranges of the redirected clones among items, in order.
-unfoldable pub ranges_from : List (List ℕ) → State Traced → Option (List ℕ) → List Item → List (List Traced)
+unfoldable pub ranges_from : List (List ℕ) → State Traced → Option (List ℕ) → List Item
+    → List (List Traced)
 unfolding redirected_by
-ranges_from parts state current items = redirected_by traced_after clone_range parts state current items
+ranges_from parts state current items =
+    redirected_by traced_after clone_range parts state current items
 
 -- The ranges of all redirected clones of items, received into a base, and of files.
 abbrev pub ranges_of : Store ℕ → List Item → List (List Traced)
@@ -200,7 +216,8 @@ ranges_of store items = ranges_from (part_uuids items) (start_of (traced_store s
 abbrev pub blocks_from : {A : Type 0} → ℕ → List A → List (List A)
 blocks_from zero cells = []
 blocks_from (suc n) [] = []
-blocks_from (suc n) (c ∷ cells) = take block_len (c ∷ cells) ∷ blocks_from n (drop block_len (c ∷ cells))
+blocks_from (suc n) (c ∷ cells) =
+    take block_len (c ∷ cells) ∷ blocks_from n (drop block_len (c ∷ cells))
 
 unfoldable pub blocks : {A : Type 0} → List A → List (List A)
 blocks cells = blocks_from (length cells) cells
@@ -233,7 +250,9 @@ unfoldable pub carried_from : Store ℕ → List Traced → Option Place
 carried_from store [] = None
 carried_from store (c ∷ cells) = elim c.place [
   | None ↦ None
-  | Some place ↦ if come_from place (c ∷ cells) && can_serve (find store place.key) place (length (c ∷ cells)) then Some place else None
+  | Some place ↦
+      if come_from place (c ∷ cells)
+      && can_serve (find store place.key) place (length (c ∷ cells)) then Some place else None
 ]
 
 -- ---- pieces
@@ -247,7 +266,12 @@ pub data Piece : Type 0 where
 -- The piece of one block of any cells, by the bytes that they have and the place from which a block
 -- can be cloned, if there is one.
 abbrev pub piece_by : {C : Type 0} → (C → ℕ) → (List C → Option Place) → ℕ → List C → Piece
-piece_by byte_in source at block = elim (source block) [ None ↦ Literal at (map byte_in block) | Some place ↦ Carried at place (length block) ]
+piece_by byte_in source at block =
+    elim (source block) [
+      | None ↦ Literal at (map byte_in block)
+      | Some place ↦
+          Carried at place (length block)
+    ]
 
 abbrev pub piece_of : Store ℕ → ℕ → List Traced → Piece
 piece_of store at block = piece_by (λ c. c.byte) (carried_from store) at block
@@ -261,16 +285,21 @@ place_after place len = record place { offset = place.offset + len }
 abbrev pub join_piece : Piece → List Piece → List Piece
 join_piece (Literal at bytes) [] = Literal at bytes ∷ []
 join_piece (Literal at bytes) (Literal at' bytes' ∷ rest) = Literal at (bytes ++ bytes') ∷ rest
-join_piece (Literal at bytes) (Carried at' place' len' ∷ rest) = Literal at bytes ∷ Carried at' place' len' ∷ rest
+join_piece (Literal at bytes) (Carried at' place' len' ∷ rest) =
+    Literal at bytes ∷ Carried at' place' len' ∷ rest
 join_piece (Carried at place len) [] = Carried at place len ∷ []
-join_piece (Carried at place len) (Literal at' bytes' ∷ rest) = Carried at place len ∷ Literal at' bytes' ∷ rest
+join_piece (Carried at place len) (Literal at' bytes' ∷ rest) =
+    Carried at place len ∷ Literal at' bytes' ∷ rest
 join_piece (Carried at place len) (Carried at' place' len' ∷ rest) =
     if same_place (place_after place len) place' then Carried at place (len + len') ∷ rest
     else Carried at place len ∷ Carried at' place' len' ∷ rest
 
-abbrev pub pieces_by : {C : Type 0} → (C → ℕ) → (List C → Option Place) → ℕ → List (List C) → List Piece
+abbrev pub pieces_by : {C : Type 0} → (C → ℕ) → (List C → Option Place) → ℕ → List (List C)
+    → List Piece
 pieces_by byte_in source at [] = []
-pieces_by byte_in source at (block ∷ others) = join_piece (piece_by byte_in source at block) (pieces_by byte_in source (at + length block) others)
+pieces_by byte_in source at (block ∷ others) =
+    join_piece (piece_by byte_in source at block)
+    (pieces_by byte_in source (at + length block) others)
 
 abbrev pub pieces_from : Store ℕ → ℕ → List (List Traced) → List Piece
 pieces_from store at cut = pieces_by (λ c. c.byte) (carried_from store) at cut

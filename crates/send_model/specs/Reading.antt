@@ -54,14 +54,16 @@ unfoldable pub frame_with : ℕ → ℕ → ℕ → List ℕ → Result Frame Re
 frame_with len number stored after = do
   refuse_if (nat_lt greatest_body len) (LongCommand len)
   require (nat_le len (length after)) Truncated
-  require (stored == frame_checksum len number (take len after)) (BadChecksum stored (frame_checksum len number (take len after)))
+  require (stored == frame_checksum len number (take len after))
+      (BadChecksum stored (frame_checksum len number (take len after)))
   Ok (record { number = number; body = take len after; rest = drop len after })
 
 -- The frame in front of bytes, which are too few for a header or begin with one.
 unfoldable pub frame_at : List ℕ → Result Frame Refusal
 frame_at bytes = do
   require (nat_le frame_header_len (length bytes)) Truncated
-  frame_with (number32 bytes) (number16 (drop 4 bytes)) (number32 (drop 6 bytes)) (drop frame_header_len bytes)
+  frame_with (number32 bytes) (number16 (drop 4 bytes)) (number32 (drop 6 bytes))
+      (drop frame_header_len bytes)
 
 -- ---- the attributes
 
@@ -75,7 +77,8 @@ attribute_head version kind = if takes_rest version kind then 2 else 4
 
 -- The length of the attribute in front: what it says, or, where it has no length, all that follows.
 abbrev pub attribute_len : ℕ → List ℕ → ℕ
-attribute_len version body = if takes_rest version (number16 body) then length body - 2 else number16 (drop 2 body)
+attribute_len version body =
+    if takes_rest version (number16 body) then length body - 2 else number16 (drop 2 body)
 
 -- Where the attribute in front ends.
 abbrev pub attribute_end : ℕ → List ℕ → ℕ
@@ -92,7 +95,11 @@ attribute_lawful version seen body =
 
 -- The attribute in front of a body.
 abbrev pub attribute_in : ℕ → List ℕ → Attribute
-attribute_in version body = record { kind = number16 body; bytes = take (attribute_len version body) (drop (attribute_head version (number16 body)) body) }
+attribute_in version body =
+    record {
+      kind = number16 body;
+      bytes = take (attribute_len version body) (drop (attribute_head version (number16 body)) body);
+    }
 
 -- The attributes of a body from the front on, the first breach of these rules being BadAttribute
 -- with its number. The first number bounds how many there are; the body's length is always enough.
@@ -101,7 +108,8 @@ attributes_from zero version seen body = Ok []
 attributes_from (suc n) version seen [] = Ok []
 attributes_from (suc n) version seen (b ∷ bs) = let body : List ℕ = b ∷ bs in
     if attribute_lawful version seen body
-    then (attributes_from n version (number16 body ∷ seen) (drop (attribute_end version body) body) >>= λ rest.
+    then (attributes_from n version (number16 body ∷ seen)
+    (drop (attribute_end version body) body) >>= λ rest.
     Ok (attribute_in version body ∷ rest))
     else Err (BadAttribute (attribute_number body))
 
@@ -188,10 +196,19 @@ pub record Reading : Type 0 where
 abbrev pub place_of : ℕ → ℕ → List Attribute → Option ℕ
 place_of version kind [] = None
 place_of version kind (a ∷ rest) = if a.kind == kind then Some (attribute_head version kind)
-    else elim (place_of version kind rest) [ None ↦ None | Some place ↦ Some (attribute_head version a.kind + length a.bytes + place) ]
+    else elim (place_of version kind rest) [
+      | None ↦ None
+      | Some place ↦
+          Some (attribute_head version a.kind + length a.bytes + place)
+    ]
 
 abbrev pub data_place : ℕ → ℕ → List Attribute → ℕ
-data_place version offset attributes = elim (place_of version DATA attributes) [ None ↦ 0 | Some place ↦ offset + frame_header_len + place ]
+data_place version offset attributes =
+    elim (place_of version DATA attributes) [
+      | None ↦ 0
+      | Some place ↦
+          offset + frame_header_len + place
+    ]
 
 -- The command in front of the bytes, as the item of the given number at the given offset, and what
 -- follows its frame.
@@ -200,7 +217,8 @@ pub record Front : Type 0 where
   pub rest : List ℕ
 
 -- An item, from its command's attributes.
-abbrev pub item_at : (file version number offset : ℕ) (attributes : List Attribute) (command : Command) → Item
+abbrev pub item_at : (file version number offset : ℕ) (attributes : List Attribute)
+    (command : Command) → Item
 item_at file version number offset attributes command = record {
   file = file;
   number = number;
@@ -240,7 +258,8 @@ due_after version (Rmdir path) = CommandDue version
 due_after version (SetXattr name value path) = CommandDue version
 due_after version (RemoveXattr name path) = CommandDue version
 due_after version (Write path offset bytes) = CommandDue version
-due_after version (Clone path offset clone_uuid clone_ctransid clone_path clone_offset clone_len) = CommandDue version
+due_after version (Clone path offset clone_uuid clone_ctransid clone_path clone_offset clone_len) =
+    CommandDue version
 due_after version (Truncate size path) = CommandDue version
 due_after version (Chmod mode path) = CommandDue version
 due_after version (Chown uid gid path) = CommandDue version
@@ -253,7 +272,11 @@ abbrev pub with_item : Item → Reading → Reading
 with_item item r = record { items = item ∷ r.items; end = r.end }
 
 abbrev pub faulty : ℕ → ℕ → ℕ → Refusal → Reading
-faulty file number offset refusal = record { items = []; end = Faulty (record { file = file; command = number; offset = offset; refusal = refusal }) }
+faulty file number offset refusal =
+    record {
+      items = [];
+      end = Faulty (record { file = file; command = number; offset = offset; refusal = refusal });
+    }
 
 -- The file may end after an END.
 abbrev pub may_end : Due → List ℕ → Bool
@@ -276,12 +299,14 @@ go_on more stop (Err refusal) = stop refusal
 unfoldable pub reads_from : ℕ → ℕ → Due → ℕ → ℕ → List ℕ → Reading
 reads_from zero file due number offset bytes = faulty file number offset Truncated
 reads_from (suc n) file HeaderDue number offset bytes =
-    go_on (λ version. reads_from n file (CommandDue version) number (offset + header_len) (drop header_len bytes))
+    go_on (λ version. reads_from n file (CommandDue version) number (offset + header_len)
+    (drop header_len bytes))
     (faulty file number offset) (stream_version bytes)
 reads_from (suc n) file (CommandDue version) number offset bytes =
     go_on (λ front. with_item front.item (
     if may_end (due_after version front.item.command) front.rest then ended
-    else reads_from n file (due_after version front.item.command) (number + 1) (offset + (length bytes - length front.rest)) front.rest))
+    else reads_from n file (due_after version front.item.command) (number + 1)
+    (offset + (length bytes - length front.rest)) front.rest))
     (faulty file number offset) (front_of file version number offset bytes)
 
 -- A whole file, which is the given one of several.

@@ -34,7 +34,8 @@ asked_for (Clone path offset clone_uuid clone_ctransid clone_path clone_offset c
 asked_for (Truncate size path) = []
 asked_for (Chmod mode path) = []
 asked_for (Chown uid gid path) = []
-asked_for (Utimes mtime atime path) = record { kind = CTIME; bytes = field_bytes (Moment mtime) } ∷ []
+asked_for (Utimes mtime atime path) =
+    record { kind = CTIME; bytes = field_bytes (Moment mtime) } ∷ []
 asked_for End = []
 asked_for (UpdateExtent size path offset) = []
 asked_for (Fallocate size path offset mode) = []
@@ -45,7 +46,8 @@ unfoldable pub receivable_attributes : Command → List Attribute
 receivable_attributes command = asked_for command ++ attributes_of command
 
 unfoldable pub receivable : ℕ → Command → List ℕ
-receivable version command = frame_of (row (kind_of command)).number (body_of version (receivable_attributes command))
+receivable version command =
+    frame_of (row (kind_of command)).number (body_of version (receivable_attributes command))
 
 -- ---- files in this spelling
 
@@ -57,13 +59,16 @@ header_before false version = []
 -- its own version.
 unfoldable pub exported_from : Bool → List Item → List ℕ
 exported_from begins [] = []
-exported_from begins (item ∷ items) = header_before begins item.version ++ (receivable item.version item.command ++ exported_from (is_end item.command) items)
+exported_from begins (item ∷ items) =
+    header_before begins item.version
+    ++ (receivable item.version item.command ++ exported_from (is_end item.command) items)
 
 -- ---- laws
 
 -- The receivable spelling spells its command.
 abbrev pub ReceivableSpells : Type 0
-ReceivableSpells = (version : ℕ) (c : Command) → IsSpellable version c → Spells version (receivable version c) c
+ReceivableSpells =
+    (version : ℕ) (c : Command) → IsSpellable version c → Spells version (receivable version c) c
 
 abbrev pub rise : List ℕ → Bool
 rise [] = true

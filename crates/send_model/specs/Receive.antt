@@ -38,7 +38,8 @@ abbrev pub byte_cells : Item → List ℕ
 byte_cells item = bytes_of item.command
 
 abbrev pub verdict_of : Item → Refusal → Verdict
-verdict_of item refusal = record { file = item.file; command = item.number; offset = item.offset; refusal = refusal }
+verdict_of item refusal =
+    record { file = item.file; command = item.number; offset = item.offset; refusal = refusal }
 
 -- Where items lead: the state after the last that was taken, and the verdict on the first that was
 -- refused.
@@ -56,7 +57,8 @@ then_run item after rest = elim after.refusal [
 -- Items in order, where it is given what an item does to a state.
 unfoldable pub run_by : {S : Type 0} → (S → Item → After S) → S → List Item → Ran S
 run_by does state [] = record { state = state; refused = None }
-run_by does state (item ∷ items) = let after = does state item in then_run item after (run_by does after.state items)
+run_by does state (item ∷ items) = let after =
+    does state item in then_run item after (run_by does after.state items)
 
 -- The run of a store and a part.
 abbrev pub Run : Type 0 → Type 0
@@ -64,7 +66,8 @@ Run C = Ran (State C)
 
 -- The commands of items in order, where each WRITE puts the cells of its item.
 unfoldable pub run_items : {C : Type 0} → C → (Item → List C) → State C → List Item → Run C
-run_items zero_cell cells state items = run_by (λ s item. step zero_cell (cells item) s item.command) state items
+run_items zero_cell cells state items =
+    run_by (λ s item. step zero_cell (cells item) s item.command) state items
 
 -- The fault with which reading ended, if any.
 abbrev pub fault_of : Ending → Option Verdict
@@ -84,7 +87,8 @@ with_fault r ending = record { state = r.state; refused = first_of r.refused (fa
 
 -- Receiving what was read into a store.
 unfoldable pub receive_items : {C : Type 0} → C → (Item → List C) → Store C → Reading → Run C
-receive_items zero_cell cells store reading = with_fault (run_items zero_cell cells (start_of store) reading.items) reading.end
+receive_items zero_cell cells store reading =
+    with_fault (run_items zero_cell cells (start_of store) reading.items) reading.end
 
 -- The same into a store of bytes, and of files.
 abbrev pub receive_of : Store ℕ → Reading → Run ℕ

@@ -28,7 +28,13 @@ pub record Sources : Type 0 where
 
 -- Of files of bytes.
 abbrev pub sources : List (List ℕ) → Sources
-sources files = record { reading = input files; first_long = too_long files; limited = limited_from 1 files; first = first_file files }
+sources files =
+    record {
+      reading = input files;
+      first_long = too_long files;
+      limited = limited_from 1 files;
+      first = first_file files;
+    }
 
 -- The same with overrides. Which file is too long does not depend on them.
 abbrev pub overridden_sources : Overrides → Sources → Sources
@@ -64,7 +70,8 @@ abbrev pub StandsBeforeOf : Request → Store ℕ → Sources → List ℕ → T
 StandsBeforeOf (Compose store at) base read written = IsStoppedOf base read.reading written
 StandsBeforeOf (Audit guards store at) base read written = written ≡ []
 StandsBeforeOf (Dump at) base read written = IsFrontOf (dump_of read.first) written
-StandsBeforeOf (Export store at) base read written = IsFrontOf (exported_of base read.limited.items) written
+StandsBeforeOf (Export store at) base read written =
+    IsFrontOf (exported_of base read.limited.items) written
 StandsBeforeOf (Gen count seed) base read written = IsFrontOf (chain_of seed count) written
 StandsBeforeOf (Trial count seed) base read written = IsFrontOf (trial_line seed count) written
 
@@ -81,9 +88,11 @@ StandsRefusedOf (Trial count seed) base read written = ⊥
 abbrev pub StandsCutOf : Request → Store ℕ → Sources → List ℕ → Type 0
 StandsCutOf (Compose store at) base read written = IsStoppedOf base read.reading written
 StandsCutOf (Audit guards store at) base read written =
-    (audit_due_of base (new_guards guards) read.limited ≡ DoneWhole) × IsProperFrontOf (accepted_line_of read.reading.items) written
+    (audit_due_of base (new_guards guards) read.limited ≡ DoneWhole)
+    × IsProperFrontOf (accepted_line_of read.reading.items) written
 StandsCutOf (Dump at) base read written = IsFrontOf (dump_of read.first) written
-StandsCutOf (Export store at) base read written = IsFrontOf (exported_of base read.limited.items) written
+StandsCutOf (Export store at) base read written =
+    IsFrontOf (exported_of base read.limited.items) written
 StandsCutOf (Gen count seed) base read written = IsFrontOf (chain_of seed count) written
 StandsCutOf (Trial count seed) base read written = IsFrontOf (trial_line seed count) written
 
@@ -100,9 +109,14 @@ EndSaysOf request base read (TooMuch sum) written = StandsBeforeOf request base 
 pub record SaysOfFiles (request : Request) (base : Store ℕ) (files : List (List ℕ)) : Type 0 where
   pub due : due_of request base (sources files) ≡ due request base files
   pub whole : whole_from request base (sources files) ≡ whole_of request base files
-  pub says : (answer : Due) (written : List ℕ) → EndSaysOf request base (sources files) answer written ↔ EndSays request base files answer written
-  pub before : (written : List ℕ) → StandsBeforeOf request base (sources files) written ↔ StandsBefore request base files written
-  pub cut : (written : List ℕ) → StandsCutOf request base (sources files) written ↔ StandsCut request base files written
+  pub says : (answer : Due) (written : List ℕ)
+      → EndSaysOf request base (sources files) answer written
+      ↔ EndSays request base files answer written
+  pub before : (written : List ℕ)
+      → StandsBeforeOf request base (sources files) written
+      ↔ StandsBefore request base files written
+  pub cut : (written : List ℕ)
+      → StandsCutOf request base (sources files) written ↔ StandsCut request base files written
 
 -- Without overrides nothing changes.
 abbrev pub NoOverridesChangeNothing : Type 0
@@ -111,29 +125,47 @@ NoOverridesChangeNothing = (read : Sources) → overridden_sources [] read ≡ r
 -- The answer that is due to an audit of files with overrides is that of receiving them under its
 -- guards, where no file is too long.
 abbrev pub OverriddenAuditIsReceiving : Type 0
-OverriddenAuditIsReceiving = (overrides : Overrides) (guards : List GuardSpec) (store first : ℕ) (base : Store ℕ) (files : List (List ℕ)) → too_long files ≡ None
+OverriddenAuditIsReceiving =
+    (overrides : Overrides) (guards : List GuardSpec) (store first : ℕ) (base : Store ℕ)
+    (files : List (List ℕ)) → too_long files ≡ None
     → due_of (Audit guards store first) base (overridden_sources overrides (sources files))
-    ≡ refused_due (receive_watched 0 byte_cells base (new_guards guards) (overridden overrides (input files))).refused
+    ≡ refused_due
+    (receive_watched 0 byte_cells base (new_guards guards)
+    (overridden overrides (input files))).refused
 
 -- And where one is, it is the first refusal of what stands before the limit of the first such file;
 -- and else it names that file.
 abbrev pub OverriddenAuditStopsAtLimit : Type 0
-OverriddenAuditStopsAtLimit = (overrides : Overrides) (guards : List GuardSpec) (store first : ℕ) (base : Store ℕ) (files : List (List ℕ)) (n : ℕ)
+OverriddenAuditStopsAtLimit =
+    (overrides : Overrides) (guards : List GuardSpec) (store first : ℕ) (base : Store ℕ)
+    (files : List (List ℕ)) (n : ℕ)
     (long : IsFirstLong 1 n files)
-    → let before : Reading = record { items = (input (long.before ++ take limit long.bytes ∷ [])).items; end = Whole } in
+    → let before : Reading =
+    record { items = (input (long.before ++ take limit long.bytes ∷ [])).items; end = Whole } in
     due_of (Audit guards store first) base (overridden_sources overrides (sources files))
-    ≡ or_due (option_map RefusedAt (receive_watched 0 byte_cells base (new_guards guards) (overridden overrides before)).refused) (TooLong n)
+    ≡ or_due (option_map RefusedAt
+    (receive_watched 0 byte_cells base (new_guards guards)
+    (overridden overrides before)).refused) (TooLong n)
 
 -- What compose answers and leaves over one base is what it answers and leaves over another.
 pub record EndsAlike (base other : Store ℕ) (read : Sources) : Type 0 where
-  pub due : (store first : ℕ) → due_of (Compose store first) other read ≡ due_of (Compose store first) base read
+  pub due : (store first : ℕ)
+      → due_of (Compose store first) other read ≡ due_of (Compose store first) base read
   pub says : (store first : ℕ) (answer : Due) (written : List ℕ)
-      → EndSaysOf (Compose store first) other read answer written ↔ EndSaysOf (Compose store first) base read answer written
-  pub before : (store first : ℕ) (written : List ℕ) → StandsBeforeOf (Compose store first) other read written ↔ StandsBeforeOf (Compose store first) base read written
-  pub cut : (store first : ℕ) (written : List ℕ) → StandsCutOf (Compose store first) other read written ↔ StandsCutOf (Compose store first) base read written
-  pub composed : (written : List ℕ) → IsComposedOf other read.reading written ↔ IsComposedOf base read.reading written
+      → EndSaysOf (Compose store first) other read answer written
+      ↔ EndSaysOf (Compose store first) base read answer written
+  pub before : (store first : ℕ) (written : List ℕ)
+      → StandsBeforeOf (Compose store first) other read written
+      ↔ StandsBeforeOf (Compose store first) base read written
+  pub cut : (store first : ℕ) (written : List ℕ)
+      → StandsCutOf (Compose store first) other read written
+      ↔ StandsCutOf (Compose store first) base read written
+  pub composed : (written : List ℕ)
+      → IsComposedOf other read.reading written ↔ IsComposedOf base read.reading written
 
 -- A base without the parts of what was read may stand with the contents of the keys outside alone.
 abbrev pub ThinnedEnds : Type 0
-ThinnedEnds = (keep : Key → Bool) (base : Store ℕ) (read : Sources) → IsApart base read.reading.items → KeepsOutside keep read.reading.items
+ThinnedEnds =
+    (keep : Key → Bool) (base : Store ℕ) (read : Sources) → IsApart base read.reading.items
+    → KeepsOutside keep read.reading.items
     → EndsAlike base (thinned keep base) read

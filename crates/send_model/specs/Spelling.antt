@@ -45,16 +45,20 @@ pub record IsAttribute (version : ℕ) (a : Attribute) : Type 0 where
 abbrev pub AreAttributes : ℕ → List Attribute → Type 0
 AreAttributes version [] = Unit {0}
 AreAttributes version (a ∷ rest) =
-    IsAttribute version a × (value_of a.kind rest ≡ None) × (takes_rest version a.kind ≡ true → rest ≡ []) × AreAttributes version rest
+    IsAttribute version a × (value_of a.kind rest ≡ None)
+    × (takes_rest version a.kind ≡ true → rest ≡ []) × AreAttributes version rest
 
 -- The checksum of a frame: over its ten header bytes, with the checksum itself taken as zero, and
 -- its body.
 unfoldable pub frame_checksum : ℕ → ℕ → List ℕ → ℕ
-frame_checksum len number body = crc_of 0 (to_le_bytes w32 len ++ to_le_bytes w16 number ++ to_le_bytes w32 0 ++ body)
+frame_checksum len number body =
+    crc_of 0 (to_le_bytes w32 len ++ to_le_bytes w16 number ++ to_le_bytes w32 0 ++ body)
 
 -- A frame: the length of its body, the command's number, the checksum, and the body.
 unfoldable pub frame_of : ℕ → List ℕ → List ℕ
-frame_of number body = to_le_bytes w32 (length body) ++ to_le_bytes w16 number ++ to_le_bytes w32 (frame_checksum (length body) number body) ++ body
+frame_of number body =
+    to_le_bytes w32 (length body) ++ to_le_bytes w16 number
+    ++ to_le_bytes w32 (frame_checksum (length body) number body) ++ body
 
 -- The greatest body of a frame.
 abbrev pub greatest_body : ℕ
@@ -62,7 +66,8 @@ greatest_body = 262_144
 
 -- The wanted attributes of a command with its values, in rising order of their numbers.
 abbrev pub with_fields : List ℕ → List Field → List Attribute
-with_fields (kind ∷ kinds) (field ∷ fields) = record { kind = kind; bytes = field_bytes field } ∷ with_fields kinds fields
+with_fields (kind ∷ kinds) (field ∷ fields) =
+    record { kind = kind; bytes = field_bytes field } ∷ with_fields kinds fields
 with_fields [] fields = []
 with_fields (kind ∷ kinds) [] = []
 
@@ -82,13 +87,15 @@ pub record Spells (version : ℕ) (bytes : List ℕ) (command : Command) : Type 
   pub lawful : AreAttributes version attributes
   pub frame : bytes ≡ frame_of (row (kind_of command)).number (body_of version attributes)
   pub short : length (body_of version attributes) ≤ greatest_body
-  pub wanted : AllByRecursion (λ a. value_of a.kind attributes ≡ Some a.bytes) (attributes_of command)
+  pub wanted : AllByRecursion (λ a. value_of a.kind attributes ≡ Some a.bytes)
+      (attributes_of command)
   pub values : FieldsFit version (row (kind_of command)).wanted (fields_of command)
 
 -- The canonical spelling: the wanted attributes alone, in rising order of their numbers. So DATA is
 -- the last.
 unfoldable pub canonical : ℕ → Command → List ℕ
-canonical version command = frame_of (row (kind_of command)).number (body_of version (attributes_of command))
+canonical version command =
+    frame_of (row (kind_of command)).number (body_of version (attributes_of command))
 
 -- A command that a version can say: it has the command, its attributes have room for the values,
 -- and its body is short enough.

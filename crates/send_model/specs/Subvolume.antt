@@ -110,7 +110,8 @@ is_file s ino = passes_inode (λ inode. is_file_kind inode.kind) (inode_at s ino
 unfoldable pub walk_names : {C : Type 0} → Subvolume C → ℕ → List (List ℕ) → Result ℕ Refusal
 walk_names s ino [] = Ok ino
 walk_names s ino (name ∷ rest) =
-    require (is_directory s ino) NotDirectory >> (found (named s ino name) NoEntry >>= λ below. walk_names s below rest)
+    require (is_directory s ino) NotDirectory >>
+    (found (named s ino name) NoEntry >>= λ below. walk_names s below rest)
 
 -- What a path leads to from the root. The empty path is the root; a symbolic link is not followed.
 unfoldable pub walk : {C : Type 0} → Subvolume C → List ℕ → Result ℕ Refusal
@@ -144,7 +145,8 @@ spot s path = do
 -- The inodes that a walk passes, its start and its end among them.
 unfoldable pub inodes_on_way : {C : Type 0} → Subvolume C → ℕ → List (List ℕ) → List ℕ
 inodes_on_way s ino [] = ino ∷ []
-inodes_on_way s ino (name ∷ rest) = elim (named s ino name) [ None ↦ ino ∷ [] | Some below ↦ ino ∷ inodes_on_way s below rest ]
+inodes_on_way s ino (name ∷ rest) =
+    elim (named s ino name) [ None ↦ ino ∷ [] | Some below ↦ ino ∷ inodes_on_way s below rest ]
 
 -- ---- names of an inode
 
@@ -175,7 +177,8 @@ abbrev pub one_further : Map (ℕ × List ℕ) ℕ → Reached → List Reached
 one_further [] from = []
 one_further (e ∷ names) from =
     if (e.0.0 == from.ino) then (if nat_le (length (path_below from.path e.0.1)) longest_path
-    then record { path = path_below from.path e.0.1; ino = e.1 } ∷ one_further names from else one_further names from)
+    then record { path = path_below from.path e.0.1; ino = e.1 }
+    ∷ one_further names from else one_further names from)
     else one_further names from
 
 abbrev pub all_further : Map (ℕ × List ℕ) ℕ → List Reached → List Reached
@@ -186,7 +189,8 @@ all_further names (from ∷ others) = one_further names from ++ all_further name
 unfoldable pub paths_from : ℕ → Map (ℕ × List ℕ) ℕ → List Reached → List Reached
 paths_from depth names [] = []
 paths_from zero names (from ∷ others) = from ∷ others
-paths_from (suc depth) names (from ∷ others) = (from ∷ others) ++ paths_from depth names (all_further names (from ∷ others))
+paths_from (suc depth) names (from ∷ others) =
+    (from ∷ others) ++ paths_from depth names (all_further names (from ∷ others))
 
 -- All paths of a subvolume. One of at most 4,095 bytes has at most 2,048 names.
 unfoldable pub all_paths : {C : Type 0} → Subvolume C → List Reached
@@ -195,11 +199,13 @@ all_paths s = paths_from 2_048 s.names (record { path = []; ino = root } ∷ [])
 -- The lesser path by bytes.
 abbrev pub lesser : List ℕ → Option (List ℕ) → Option (List ℕ)
 lesser path None = Some path
-lesser path (Some other) = elim (bytes_cmp path other) [ Less ↦ Some path | Equal ↦ Some path | Greater ↦ Some other ]
+lesser path (Some other) =
+    elim (bytes_cmp path other) [ Less ↦ Some path | Equal ↦ Some path | Greater ↦ Some other ]
 
 abbrev pub least_path : ℕ → List Reached → Option (List ℕ)
 least_path ino [] = None
-least_path ino (r ∷ rest) = if r.ino == ino then lesser r.path (least_path ino rest) else least_path ino rest
+least_path ino (r ∷ rest) =
+    if r.ino == ino then lesser r.path (least_path ino rest) else least_path ino rest
 
 -- The least path by bytes that names an inode, if there is one.
 unfoldable pub first_path : {C : Type 0} → Subvolume C → ℕ → Option (List ℕ)
@@ -218,14 +224,17 @@ pub record IsSound {C : Type 0} (s : Subvolume C) : Type 0 where
   pub root_there : IsTrue (is_directory s root)
   -- a name stands in a directory and leads to an inode that is there, and never to the root (which
   -- is more than a tree needs, and kept by every edit)
-  pub in_directory : (directory : ℕ) (name : List ℕ) (ino : ℕ) → named s directory name ≡ Some ino → IsTrue (is_directory s directory)
-  pub leads_somewhere : (directory : ℕ) (name : List ℕ) (ino : ℕ) → named s directory name ≡ Some ino → IsTrue (is_some (inode_at s ino))
+  pub in_directory : (directory : ℕ) (name : List ℕ) (ino : ℕ) → named s directory name ≡ Some ino
+      → IsTrue (is_directory s directory)
+  pub leads_somewhere : (directory : ℕ) (name : List ℕ) (ino : ℕ)
+      → named s directory name ≡ Some ino → IsTrue (is_some (inode_at s ino))
   pub root_unnamed : (directory : ℕ) (name : List ℕ) → named s directory name ≢ Some root
   -- each inode but the root has a name, and a directory just one
   pub has_name : (ino : ℕ) → IsTrue (is_some (inode_at s ino)) → ino ≢ root → 1 ≤ name_count s ino
   pub one_name : (ino : ℕ) → IsTrue (is_directory s ino) → name_count s ino ≤ 1
   -- from the root some names lead to each directory, so the way up from it ends at the root
-  pub from_root : (directory : ℕ) → IsTrue (is_directory s directory) → (names : List (List ℕ)) × (walk_names s root names ≡ Ok directory)
+  pub from_root : (directory : ℕ) → IsTrue (is_directory s directory)
+      → (names : List (List ℕ)) × (walk_names s root names ≡ Ok directory)
   -- all numbers are below the next
   pub below_next : (ino : ℕ) → IsTrue (is_some (inode_at s ino)) → ino < s.next
 

@@ -17,7 +17,13 @@ use Rattle.send_model.specs.Due.{compose_due_of}
 -- An entry keeps its contents where its key passes a test; else it stands as an unfinished one
 -- does.
 abbrev pub thinned_entry : {S : Type 0} → (Key → Bool) → Entry S → Entry S
-thinned_entry keep e = record { name = e.name; key = e.key; parent = e.parent; contents = if keep e.key then e.contents else None }
+thinned_entry keep e =
+    record {
+      name = e.name;
+      key = e.key;
+      parent = e.parent;
+      contents = if keep e.key then e.contents else None;
+    }
 
 -- The same entries, by name, key and parent, in the same order; with the contents of those alone
 -- whose keys pass the test.
@@ -43,7 +49,8 @@ AreAlike keys [] [] = Unit {0}
 AreAlike keys [] (f ∷ other) = ⊥
 AreAlike keys (e ∷ store) [] = ⊥
 AreAlike keys (e ∷ store) (f ∷ other) =
-    (e.name ≡ f.name) × (e.key ≡ f.key) × (e.parent ≡ f.parent) × (IsAmong e.key keys → e.contents ≡ f.contents) × AreAlike keys store other
+    (e.name ≡ f.name) × (e.key ≡ f.key) × (e.parent ≡ f.parent)
+    × (IsAmong e.key keys → e.contents ≡ f.contents) × AreAlike keys store other
 
 -- An entry's name, key and parent.
 abbrev pub head_in : {S : Type 0} → Entry S → Head
@@ -51,11 +58,13 @@ head_in e = record { name = e.name; key = e.key; parent = e.parent }
 
 -- What is left out is contents alone: each entry is still there in its place, and so are each name
 -- and each uuid; a key finds what it found where the test keeps it, and else nothing.
-pub record LeavesOutContents {S : Type 0} (keep : Key → Bool) (store : List (Entry S)) : Type 0 where
+pub record LeavesOutContents {S : Type 0} (keep : Key → Bool)
+    (store : List (Entry S)) : Type 0 where
   pub entries : map head_in (thinned keep store) ≡ map head_in store
   pub names : (name : List ℕ) → has_name name (thinned keep store) ≡ has_name name store
   pub uuids : (uuid : List ℕ) → has_uuid uuid (thinned keep store) ≡ has_uuid uuid store
-  pub finds : (key : Key) → find (thinned keep store) key ≡ (if keep key then find store key else None)
+  pub finds : (key : Key)
+      → find (thinned keep store) key ≡ (if keep key then find store key else None)
 
 -- ---- what composing makes of them
 
@@ -72,12 +81,15 @@ pub record IsSameOver (base other : Store ℕ) (reading : Reading) : Type 0 wher
 
 -- Composing does not look at the contents of an entry that no command names.
 abbrev pub LooksAtNamed : Type 0
-LooksAtNamed = (keep : Key → Bool) (base : Store ℕ) (reading : Reading) → KeepsNamed keep reading.items
+LooksAtNamed =
+    (keep : Key → Bool) (base : Store ℕ) (reading : Reading) → KeepsNamed keep reading.items
     → IsSameOver base (thinned keep base) reading
 
 -- So it is the same over two bases that are alike at the keys that are named.
 abbrev pub AlikeIsSame : Type 0
-AlikeIsSame = (base other : Store ℕ) (reading : Reading) → AreAlike (all_keys_named (commands_of reading.items)) base other
+AlikeIsSame =
+    (base other : Store ℕ) (reading : Reading)
+    → AreAlike (all_keys_named (commands_of reading.items)) base other
     → IsSameOver base other reading
 
 -- A base has no part of some items.
@@ -88,11 +100,15 @@ IsApart base items = store_without (part_uuids items) base ≡ base
 -- stream is the same too.
 pub record OutsideIsEnough (keep : Key → Bool) (base : Store ℕ) (reading : Reading) : Type 0 where
   pub same : IsSameOver base (thinned keep base) reading
-  pub composed : (written : List ℕ) → IsComposedOf (thinned keep base) reading written ↔ IsComposedOf base reading written
-  pub stopped : (written : List ℕ) → IsStoppedOf (thinned keep base) reading written ↔ IsStoppedOf base reading written
+  pub composed : (written : List ℕ)
+      → IsComposedOf (thinned keep base) reading written ↔ IsComposedOf base reading written
+  pub stopped : (written : List ℕ)
+      → IsStoppedOf (thinned keep base) reading written ↔ IsStoppedOf base reading written
 
 abbrev pub LooksOutside : Type 0
-LooksOutside = (keep : Key → Bool) (base : Store ℕ) (reading : Reading) → IsApart base reading.items → KeepsOutside keep reading.items
+LooksOutside =
+    (keep : Key → Bool) (base : Store ℕ) (reading : Reading) → IsApart base reading.items
+    → KeepsOutside keep reading.items
     → OutsideIsEnough keep base reading
 
 -- So the contents of every entry may go whose key no command names.
@@ -103,6 +119,10 @@ LeastIsEnough = (base : Store ℕ) (reading : Reading) → IsApart base reading.
 -- Two bases without the parts that are alike at the keys outside: all is the same over both, and
 -- what is promised over one is promised over the other.
 abbrev pub AlikeOutside : Type 0
-AlikeOutside = (base other : Store ℕ) (reading : Reading) → IsApart base reading.items → IsApart other reading.items
+AlikeOutside =
+    (base other : Store ℕ) (reading : Reading) → IsApart base reading.items
+    → IsApart other reading.items
     → AreAlike (keys_outside reading.items) base other
-    → IsSameOver base other reading × ((written : List ℕ) → IsComposedOf base reading written → IsComposedOf other reading written)
+    → IsSameOver base other reading
+    × ((written : List ℕ) → IsComposedOf base reading written
+    → IsComposedOf other reading written)

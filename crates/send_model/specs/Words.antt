@@ -47,7 +47,12 @@ guards_and_files at (word ∷ words) =
     if is_guard_word word
     then elim (guard_of word) [
       | None ↦ None
-      | Some guard ↦ elim (guards_and_files (at + 1) words) [ None ↦ None | Some request ↦ Some (with_guard guard request) ]
+      | Some guard ↦
+          elim (guards_and_files (at + 1) words) [
+            | None ↦ None
+            | Some request ↦
+                Some (with_guard guard request)
+          ]
     ]
     else store_and_files (Audit []) at (word ∷ words)
 
@@ -64,10 +69,12 @@ is_count count = nat_le 1 count && nat_le count 4_096
 abbrev pub of_numbers : (ℕ → ℕ → Request) → Option ℕ → Option ℕ → Option Request
 of_numbers request None seed = None
 of_numbers request (Some count) None = None
-of_numbers request (Some count) (Some seed) = if is_count count then Some (request count seed) else None
+of_numbers request (Some count) (Some seed) =
+    if is_count count then Some (request count seed) else None
 
 abbrev pub count_and_seed : (ℕ → ℕ → Request) → List (List ℕ) → Option Request
-count_and_seed request (count ∷ seed ∷ []) = of_numbers request (number_word count) (number_word seed)
+count_and_seed request (count ∷ seed ∷ []) =
+    of_numbers request (number_word count) (number_word seed)
 count_and_seed request (count ∷ seed ∷ more ∷ words) = None
 count_and_seed request (count ∷ []) = None
 count_and_seed request [] = None
@@ -138,7 +145,9 @@ StandsRefused (Trial count seed) base files written = ⊥
 -- only then; its line was cut short.
 abbrev pub StandsCut : Request → Store ℕ → List (List ℕ) → List ℕ → Type 0
 StandsCut (Compose store at) base files written = IsStopped base files written
-StandsCut (Audit guards store at) base files written = (audit_due base (new_guards guards) files ≡ DoneWhole) × IsProperFrontOf (accepted_line files) written
+StandsCut (Audit guards store at) base files written =
+    (audit_due base (new_guards guards) files ≡ DoneWhole)
+    × IsProperFrontOf (accepted_line files) written
 StandsCut (Dump at) base files written = IsFrontOf (dump_of (first_file files)) written
 StandsCut (Export store at) base files written = IsFrontOf (exported base files) written
 StandsCut (Gen count seed) base files written = IsFrontOf (chain_of seed count) written

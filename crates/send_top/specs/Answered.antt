@@ -32,10 +32,13 @@ HasShortNote (Damaged group stored computed) = ⊤
 
 -- Some bytes that were to be written are written, and others are still to be.
 abbrev pub HandedOn : (before after : List ℕ) → (old new : Option (List ℕ)) → Type 0
-HandedOn before after old new = (written : List ℕ) × Appends old new written × (written ++ after ≡ before)
+HandedOn before after old new =
+    (written : List ℕ) × Appends old new written × (written ++ after ≡ before)
 
 -- What a run gave of an answer: its exit status, and in the notes its whole note, or a proper
 -- prefix of it where their count of faults rose.
-pub record IsGiven (answer : meant.Answer) (old new : Option (List ℕ)) (before now : ℕ) (status : ℕ) : Type 0 where
+pub record IsGiven (answer : meant.Answer) (old new : Option (List ℕ)) (before now : ℕ)
+    (status : ℕ) : Type 0 where
   pub status_is : status ≡ status_of answer
-  pub note : Appends old new (note_of answer) ⊎ AppendsPart old new (note_of answer) × Rose before now
+  pub note : Appends old new (note_of answer) ⊎ AppendsPart old new (note_of answer)
+      × Rose before now

@@ -36,4 +36,6 @@ schedule_of asked = places_in (word_at (map string_bytes asked.words.now) asked.
 
 -- All of it, with the bytes of the files.
 abbrev pub turns_asked : TurnWords → (bytes : List (List ℕ)) → InTurns
-turns_asked asked bytes = in_turns (schedule_of asked) bytes (new_guards (files_in_turn asked).guards) (files_in_turn asked).shares
+turns_asked asked bytes =
+    in_turns (schedule_of asked) bytes (new_guards (files_in_turn asked).guards)
+    (files_in_turn asked).shares

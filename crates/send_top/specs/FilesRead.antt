@@ -11,7 +11,8 @@ use Rattle.turn_sessions.specs.Asked.{AreReadInTurns}
 
 -- Composing reads its files twice, in their order, and ranges of their data again; each other
 -- request reads its files once, in their order.
-abbrev pub StreamsRead : (told : Option (List (List ℕ × List ℕ))) → streams.Request → (words : List (List ℕ)) → List Ask → Type 0
+abbrev pub StreamsRead : (told : Option (List (List ℕ × List ℕ))) → streams.Request
+    → (words : List (List ℕ)) → List Ask → Type 0
 StreamsRead told (Compose store files) words = AreReadTwice told (files_in (drop files words))
 StreamsRead told (Audit guards store files) words = AreReadOnce (files_in (drop files words))
 StreamsRead told (Dump file) words = AreReadOnce (word_at words file ∷ [])
@@ -19,7 +20,8 @@ StreamsRead told (Export store files) words = AreReadOnce (files_in (drop files 
 StreamsRead told (Gen count seed) words = AreReadOnce []
 StreamsRead told (Trial count seed) words = AreReadOnce []
 
-abbrev pub StoredRead : (told : Option (List (List ℕ × List ℕ))) → stored.Request → (words : List (List ℕ)) → List Ask → Type 0
+abbrev pub StoredRead : (told : Option (List (List ℕ × List ℕ))) → stored.Request
+    → (words : List (List ℕ)) → List Ask → Type 0
 StoredRead told (OfStreams request) words = StreamsRead told request words
 StoredRead told (InitStore store) words = AreReadOnce []
 StoredRead told (DropEntry store name) words = AreReadOnce []
@@ -30,7 +32,8 @@ StoredRead told (CatFile store name path) words = AreReadOnce []
 StoredRead told (ScrubStore store) words = AreReadOnce []
 
 -- Files that take turns are each read once.
-abbrev pub FilesRead : (told : Option (List (List ℕ × List ℕ))) → Request → (words : List (List ℕ)) → List Ask → Type 0
+abbrev pub FilesRead : (told : Option (List (List ℕ × List ℕ))) → Request → (words : List (List ℕ))
+    → List Ask → Type 0
 FilesRead told (OfStore request) words = StoredRead told request words
 FilesRead told (SendEntry store name) words = AreReadOnce []
 FilesRead told (RestoreEntry store name) words = AreReadOnce []

@@ -109,7 +109,8 @@ abbrev pub with_overrides : List (List ℕ) → List (List ℕ) → NamedFiles
 with_overrides words files = record { bytes = files; overrides = overrides_in words }
 
 abbrev pub named_files : meant.Request → List (List ℕ) → List (List ℕ) → NamedFiles
-named_files request words files = record { bytes = files; overrides = overrides_asked request words }
+named_files request words files =
+    record { bytes = files; overrides = overrides_asked request words }
 
 -- What words give, if they may say something in front of files: their files, of which there are
 -- some, with what is said.
@@ -144,7 +145,8 @@ uses_store words (TakeTurns store schedule turns) = true
 
 -- The place of the word that names the disk, of a request that is answered by it.
 abbrev pub stored_place : List (List ℕ) → stored.Request → Option ℕ
-stored_place words (OfStreams request) = if reads_store words (store_of request) then store_of request else None
+stored_place words (OfStreams request) =
+    if reads_store words (store_of request) then store_of request else None
 stored_place words (InitStore store) = Some store
 stored_place words (DropEntry store name) = Some store
 stored_place words (ReceiveFiles guards store files) = Some store
@@ -161,7 +163,12 @@ store_place words (TakeTurns store schedule turns) = Some store
 
 -- That word, where words ask for such a request.
 unfoldable pub store_named : List (List ℕ) → Option (List ℕ)
-store_named words = elim (request_of words) [ None ↦ None | Some request ↦ option_map (word_at words) (store_place words request) ]
+store_named words =
+    elim (request_of words) [
+      | None ↦ None
+      | Some request ↦
+          option_map (word_at words) (store_place words request)
+    ]
 
 -- What such a request does with the disk: it makes a store there, writes to the one that is there,
 -- or only reads it.
@@ -182,11 +189,17 @@ use_of (RestoreEntry store name) = used.Read
 use_of (TakeTurns store schedule turns) = used.Write
 
 unfoldable pub use_asked : List (List ℕ) → Option StoreUse
-use_asked words = elim (request_of words) [ None ↦ None | Some request ↦ if uses_store words request then Some (use_of request) else None ]
+use_asked words =
+    elim (request_of words) [
+      | None ↦ None
+      | Some request ↦
+          if uses_store words request then Some (use_of request) else None
+    ]
 
 -- Words and guards ask for a request: the words mean it, and the guards are those that it gives, in
 -- order, of which none has counted anything yet.
-pub record Asks (words : List (List ℕ)) (guards : List Guard) (request : meant.Request) : Type 0 where
+pub record Asks (words : List (List ℕ)) (guards : List Guard)
+    (request : meant.Request) : Type 0 where
   pub meant : request_of words ≡ Some request
   pub fits : guards ≡ new_guards (specs_of request)
 
@@ -198,7 +211,8 @@ AskNothing words guards = (request : meant.Request) → Asks words guards reques
 -- The guards that stand in words.
 abbrev pub guards_in : List (List ℕ) → List GuardSpec
 guards_in [] = []
-guards_in (word ∷ words) = elim (guard_of word) [ None ↦ guards_in words | Some guard ↦ guard ∷ guards_in words ]
+guards_in (word ∷ words) =
+    elim (guard_of word) [ None ↦ guards_in words | Some guard ↦ guard ∷ guards_in words ]
 
 -- The words in front of the store's place, but for the first, which names the request.
 abbrev pub before_store : List (List ℕ) → ℕ → List (List ℕ)
@@ -252,7 +266,8 @@ places_in schedule = map (λ letter. letter - 48) schedule
 -- The code's request among words as that of the definitions.
 abbrev pub streams_meant : List (List ℕ) → StreamsRequest → streams.Request
 streams_meant words (of_files.Compose store files) = Compose store files
-streams_meant words (of_files.Audit store files) = Audit (guards_in (before_store words store)) store files
+streams_meant words (of_files.Audit store files) =
+    Audit (guards_in (before_store words store)) store files
 streams_meant words (of_files.Dump file) = Dump file
 streams_meant words (of_files.Export store files) = Export store files
 streams_meant words (of_files.Gen count seed) = Gen count seed
@@ -261,14 +276,16 @@ streams_meant words (of_files.Trial count seed) = Trial count seed
 abbrev pub store_meant : List (List ℕ) → StoreRequest → meant.Request
 store_meant words (of_store.Init store) = OfStore (InitStore store)
 store_meant words (of_store.Drop store name) = OfStore (DropEntry store name)
-store_meant words (of_store.Receive store files) = OfStore (ReceiveFiles (guards_in (before_store words store)) store files)
+store_meant words (of_store.Receive store files) =
+    OfStore (ReceiveFiles (guards_in (before_store words store)) store files)
 store_meant words (of_store.List store) = OfStore (ListStore store)
 store_meant words (of_store.Show store name) = OfStore (ShowEntry store name)
 store_meant words (of_store.Cat store name path) = OfStore (CatFile store name path)
 store_meant words (of_store.Scrub store) = OfStore (ScrubStore store)
 store_meant words (of_store.Send store name) = SendEntry store name
 store_meant words (of_store.Restore store name) = RestoreEntry store name
-store_meant words (of_store.Interleave store schedule turns) = TakeTurns store (places_in (word_at words schedule)) (turns_in (drop turns words))
+store_meant words (of_store.Interleave store schedule turns) =
+    TakeTurns store (places_in (word_at words schedule)) (turns_in (drop turns words))
 
 abbrev pub request_meant : List (List ℕ) → Request → meant.Request
 request_meant words (made.Streams request) = OfStore (OfStreams (streams_meant words request))
@@ -286,14 +303,17 @@ AreWithin count (of_files.Trial number seed) = (1 ≤ number) × (number ≤ 4_0
 abbrev pub IsOverWithin : ℕ → StoreRequest → Type 0
 IsOverWithin count (of_store.Init store) = store < count
 IsOverWithin count (of_store.Drop store name) = (store < count) × (name < count)
-IsOverWithin count (of_store.Receive store files) = (1 ≤ store) × (store + 1 ≡ files) × (files < count)
+IsOverWithin count (of_store.Receive store files) =
+    (1 ≤ store) × (store + 1 ≡ files) × (files < count)
 IsOverWithin count (of_store.List store) = store < count
 IsOverWithin count (of_store.Show store name) = (store < count) × (name < count)
-IsOverWithin count (of_store.Cat store name path) = (store < count) × (name < count) × (path < count)
+IsOverWithin count (of_store.Cat store name path) =
+    (store < count) × (name < count) × (path < count)
 IsOverWithin count (of_store.Scrub store) = store < count
 IsOverWithin count (of_store.Send store name) = (store < count) × (name < count)
 IsOverWithin count (of_store.Restore store name) = (store < count) × (name < count)
-IsOverWithin count (of_store.Interleave store schedule turns) = (store < count) × (schedule < count) × (turns < count)
+IsOverWithin count (of_store.Interleave store schedule turns) =
+    (store < count) × (schedule < count) × (turns < count)
 
 abbrev pub IsWithin : ℕ → Request → Type 0
 IsWithin count (made.Streams request) = AreWithin count request

@@ -38,7 +38,8 @@ use Rattle.send_top.specs.Requests.{Asks, names_asked, named_files, with_overrid
 -- ---- the answer
 
 -- A fact about named files, where the inputs tell their files. Of no files it is said in any case.
-abbrev pub IfAllRead : Option (List (List ℕ × List ℕ)) → List (List ℕ) → (List (List ℕ) → Type 0) → Type 0
+abbrev pub IfAllRead : Option (List (List ℕ × List ℕ)) → List (List ℕ) → (List (List ℕ) → Type 0)
+    → Type 0
 IfAllRead told [] P = P []
 IfAllRead told (name ∷ names) P = IfAllTold told (name ∷ names) P
 
@@ -72,62 +73,89 @@ pub record Outside : Type 0 where
   pub before : Option (List ℕ)
   pub after : Option (List ℕ)
 
-abbrev pub outside : (told : Option (List (List ℕ × List ℕ))) (image : List ℕ) (before after : Option (List ℕ)) → Outside
-outside told image before after = record { told = told; image = image; before = before; after = after }
+abbrev pub outside : (told : Option (List (List ℕ × List ℕ))) (image : List ℕ)
+    (before after : Option (List ℕ)) → Outside
+outside told image before after =
+    record { told = told; image = image; before = before; after = after }
 
 -- Of the request that words and guards ask for the answer is one that it may get, by the image at
 -- entry, the files that it names, what was written and the image that is left.
-abbrev pub IsAnswered : (tells : Type 0) → List (List ℕ) → List Guard → Outside → (left : List ℕ) → Answer → Type 0
+abbrev pub IsAnswered : (tells : Type 0) → List (List ℕ) → List Guard → Outside → (left : List ℕ)
+    → Answer → Type 0
 IsAnswered tells words guards met left answer = (request : Request) → Asks words guards request
     → OfDisk tells (uses_store words request) (IfAllRead met.told (names_asked request words)
-    (λ files. Wrote met.before met.after (λ written. IfBytes request files (Answers request (at_entry words met.image (named_files request words files)) answer written left))))
+    (λ files. Wrote met.before met.after
+    (λ written. IfBytes request files
+    (Answers request
+    (at_entry words met.image (named_files request words files)) answer written left))))
 
 -- What the headline says, over a store without the parts of the files, of what is read of them with
 -- what is said in front of them.
 abbrev pub IsComposedFor : Store ℕ → Overrides → List (List ℕ) → (written : List ℕ) → Type 0
-IsComposedFor s names files written = let reading : Reading = overridden names (input files) in IsComposedOf (base_of s reading.items) reading written
+IsComposedFor s names files written = let reading : Reading =
+    overridden names (input files) in IsComposedOf (base_of s reading.items) reading written
 
 -- Where a command is refused, all was written that stands for the commands before it.
 abbrev pub IsFrontFor : Store ℕ → Overrides → List (List ℕ) → (written : List ℕ) → Type 0
-IsFrontFor s names files written = let reading : Reading = overridden names (input files) in written ≡ whole_output_of (base_of s reading.items) reading
+IsFrontFor s names files written = let reading : Reading =
+    overridden names (input files) in written ≡ whole_output_of (base_of s reading.items) reading
 
 -- What is promised of an exported stream, over a store, of what is read of files of bytes with what
 -- is said in front of them.
 abbrev pub IsExportedFor : Store ℕ → Overrides → List (List ℕ) → (written : List ℕ) → Type 0
-IsExportedFor s names files written = AllByRecursion IsBytes files → IsExportedOf s (overridden names (input files)) written
+IsExportedFor s names files written =
+    AllByRecursion IsBytes files → IsExportedOf s (overridden names (input files)) written
 
 -- This holds of what was written of the files from a place on, with what is said in front of them,
 -- over the store that the word at a place names.
-abbrev pub WroteOver : (Store ℕ → Overrides → List (List ℕ) → List ℕ → Type 0) → (tells : Type 0) → List (List ℕ) → Outside → (store at : ℕ) → Type 0
-WroteOver P tells words met store at = OfDisk tells (reads_store words (Some store)) (IfAllTold met.told (files_in (drop at words))
-    (λ files. Wrote met.before met.after (λ written. (s : Store ℕ) → IsOver (reads_store words (Some store)) met.image s → P s (overrides_in (drop at words)) files written)))
+abbrev pub WroteOver : (Store ℕ → Overrides → List (List ℕ) → List ℕ → Type 0) → (tells : Type 0)
+    → List (List ℕ) → Outside → (store at : ℕ) → Type 0
+WroteOver P tells words met store at =
+    OfDisk tells (reads_store words (Some store)) (IfAllTold met.told (files_in (drop at words))
+    (λ files. Wrote met.before met.after
+    (λ written. (s : Store ℕ) → IsOver (reads_store words (Some store)) met.image s
+    → P s (overrides_in (drop at words)) files written)))
 
 -- So the headline does where files are composed; what is said where a command is refused; and what
 -- is promised where they are exported.
 abbrev pub Composes : (tells : Type 0) → List (List ℕ) → List Guard → Outside → Type 0
-Composes tells words guards met = (store at : ℕ) → Asks words guards (OfStore (OfStreams (Compose store at))) → WroteOver IsComposedFor tells words met store at
+Composes tells words guards met =
+    (store at : ℕ) → Asks words guards (OfStore (OfStreams (Compose store at)))
+    → WroteOver IsComposedFor tells words met store at
 
 abbrev pub ComposesFront : (tells : Type 0) → List (List ℕ) → List Guard → Outside → Type 0
-ComposesFront tells words guards met = (store at : ℕ) → Asks words guards (OfStore (OfStreams (Compose store at))) → WroteOver IsFrontFor tells words met store at
+ComposesFront tells words guards met =
+    (store at : ℕ) → Asks words guards (OfStore (OfStreams (Compose store at)))
+    → WroteOver IsFrontFor tells words met store at
 
 abbrev pub Exports : (tells : Type 0) → List (List ℕ) → List Guard → Outside → Type 0
-Exports tells words guards met = (store at : ℕ) → Asks words guards (OfStore (OfStreams (Export store at))) → WroteOver IsExportedFor tells words met store at
+Exports tells words guards met =
+    (store at : ℕ) → Asks words guards (OfStore (OfStreams (Export store at)))
+    → WroteOver IsExportedFor tells words met store at
 
 -- What was written of the complete subvolume of the name at a place is one stream that makes it
 -- anew: every store that has neither its name nor its uuid receives it, with an equal listing.
-abbrev pub SendsOver : (tells : Type 0) → List (List ℕ) → (image : List ℕ) → (old new : Option (List ℕ)) → (name : ℕ) → Type 0
-SendsOver tells words image old new name = tells → Wrote old new (λ written. IsReceivedAnew image (name_at words name) written)
+abbrev pub SendsOver : (tells : Type 0) → List (List ℕ) → (image : List ℕ)
+    → (old new : Option (List ℕ)) → (name : ℕ) → Type 0
+SendsOver tells words image old new name =
+    tells → Wrote old new (λ written. IsReceivedAnew image (name_at words name) written)
 
 -- So it is of a subvolume that is sent, and of one that is restored.
-abbrev pub Sends : (tells : Type 0) → List (List ℕ) → List Guard → (image : List ℕ) → (old new : Option (List ℕ)) → Type 0
-Sends tells words guards image old new = (store name : ℕ) → (Asks words guards (SendEntry store name)) ⊎ (Asks words guards (RestoreEntry store name))
+abbrev pub Sends : (tells : Type 0) → List (List ℕ) → List Guard → (image : List ℕ)
+    → (old new : Option (List ℕ)) → Type 0
+Sends tells words guards image old new =
+    (store name : ℕ)
+    → (Asks words guards (SendEntry store name)) ⊎ (Asks words guards (RestoreEntry store name))
     → SendsOver tells words image old new name
 
 -- What is written where not all was done: some of the stream is missing.
-abbrev pub SendsInPart : Request → List (List ℕ) → (image : List ℕ) → (old new : Option (List ℕ)) → Type 0
+abbrev pub SendsInPart : Request → List (List ℕ) → (image : List ℕ) → (old new : Option (List ℕ))
+    → Type 0
 SendsInPart (OfStore request) words image old new = ⊤
-SendsInPart (SendEntry store name) words image old new = Wrote old new (λ written. IsUnfinished sent_stream image (name_at words name) written)
-SendsInPart (RestoreEntry store name) words image old new = Wrote old new (λ written. IsUnfinished restored_stream image (name_at words name) written)
+SendsInPart (SendEntry store name) words image old new =
+    Wrote old new (λ written. IsUnfinished sent_stream image (name_at words name) written)
+SendsInPart (RestoreEntry store name) words image old new =
+    Wrote old new (λ written. IsUnfinished restored_stream image (name_at words name) written)
 SendsInPart (TakeTurns store schedule turns) words image old new = ⊤
 
 -- ---- causes
@@ -143,7 +171,8 @@ IsCaused steady inputs_rose ends_rose out_rose disk_rose (OfAnyWord OutputFault)
 IsCaused steady inputs_rose ends_rose out_rose disk_rose (OfAnyWord NoMemory) = ⊤
 IsCaused steady inputs_rose ends_rose out_rose disk_rose (OfAnyWord (InputTooLong file)) = ⊤
 IsCaused steady inputs_rose ends_rose out_rose disk_rose (OfAnyWord (TooMuch sum)) = ⊤
-IsCaused steady inputs_rose ends_rose out_rose disk_rose (OfAnyWord (InputChanged file place)) = ends_rose
+IsCaused steady inputs_rose ends_rose out_rose disk_rose (OfAnyWord (InputChanged file place)) =
+    ends_rose
 IsCaused steady inputs_rose ends_rose out_rose disk_rose StoreFault = disk_rose
 IsCaused steady inputs_rose ends_rose out_rose disk_rose (NotStore group) = ⊤
 IsCaused steady inputs_rose ends_rose out_rose disk_rose (Missing what) = ⊤
@@ -155,11 +184,16 @@ IsCaused steady inputs_rose ends_rose out_rose disk_rose (Damaged group stored c
 -- writes cloned bytes, so it alone may find a file changed, or too much to write.
 abbrev pub EndCaused : streams.Request → (before now : Counts) → Outcome → Type 0
 EndCaused (Compose store files) before now outcome = CausedAgain before now outcome
-EndCaused (Audit guards store files) before now outcome = Caused before.reads now.reads before.writes now.writes outcome
-EndCaused (Dump file) before now outcome = Caused before.reads now.reads before.writes now.writes outcome
-EndCaused (Export store files) before now outcome = Caused before.reads now.reads before.writes now.writes outcome
-EndCaused (Gen count seed) before now outcome = Caused before.reads now.reads before.writes now.writes outcome
-EndCaused (Trial count seed) before now outcome = Caused before.reads now.reads before.writes now.writes outcome
+EndCaused (Audit guards store files) before now outcome =
+    Caused before.reads now.reads before.writes now.writes outcome
+EndCaused (Dump file) before now outcome =
+    Caused before.reads now.reads before.writes now.writes outcome
+EndCaused (Export store files) before now outcome =
+    Caused before.reads now.reads before.writes now.writes outcome
+EndCaused (Gen count seed) before now outcome =
+    Caused before.reads now.reads before.writes now.writes outcome
+EndCaused (Trial count seed) before now outcome =
+    Caused before.reads now.reads before.writes now.writes outcome
 
 -- A request on streams that reads no file and no store; the answers that it gets, and how it ends.
 abbrev pub IsMade : streams.Request → Type 0
@@ -199,7 +233,8 @@ IsMadeEnd (ended.InputChanged file place) = ⊥
 
 -- Words and guards ask for a composed stream.
 abbrev pub AskToCompose : List (List ℕ) → List Guard → Type 0
-AskToCompose words guards = (store : ℕ) × (files : ℕ) × Asks words guards (OfStore (OfStreams (Compose store files)))
+AskToCompose words guards =
+    (store : ℕ) × (files : ℕ) × Asks words guards (OfStore (OfStreams (Compose store files)))
 
 -- What holds of the answers that composing alone gives.
 abbrev pub IfOfCompose : Answer → Type 0 → Type 0
@@ -221,11 +256,14 @@ IfOfCompose (Damaged group stored computed) P = ⊤
 
 -- Words and guards ask for something that is answered by the disk.
 abbrev pub AskForStore : List (List ℕ) → List Guard → Type 0
-AskForStore words guards = (request : Request) × Asks words guards request × (uses_store words request ≡ true)
+AskForStore words guards =
+    (request : Request) × Asks words guards request × (uses_store words request ≡ true)
 
 -- The statuses that only such a request gets.
 abbrev pub IsStoreStatus : ℕ → Type 0
-IsStoreStatus status = (status ≡ 5) ⊎ ((status ≡ 6) ⊎ ((status ≡ 8) ⊎ ((status ≡ 10) ⊎ ((status ≡ 12) ⊎ (status ≡ 14)))))
+IsStoreStatus status =
+    (status ≡ 5)
+    ⊎ ((status ≡ 6) ⊎ ((status ≡ 8) ⊎ ((status ≡ 10) ⊎ ((status ≡ 12) ⊎ (status ≡ 14)))))
 
 -- What holds of the answers that only such a request gets.
 abbrev pub IfOfStore : Answer → Type 0 → Type 0
@@ -316,16 +354,20 @@ IsGivenFor ways reads again prints (NotStore group) = ways.not_store
 IsGivenFor ways reads again prints (Missing what) = ways.no_name ⊎ ways.no_file
 IsGivenFor ways reads again prints (LogFull end wanted limit) = ways.log_full
 IsGivenFor ways reads again prints (StoreThere size) = ways.store_there
-IsGivenFor ways reads again prints (Damaged group stored computed) = ways.damaged × (stored ≢ computed)
+IsGivenFor ways reads again prints (Damaged group stored computed) =
+    ways.damaged × (stored ≢ computed)
 
 -- An answer that a request may get which is answered by the disk. Making a store never lacks
 -- memory, and finds no store at fault.
 abbrev pub MayGet : Request → Answer → Type 0
-MayGet request answer = IsGivenFor (ways_of request) (ReadsFiles request) (IsComposing request) (Prints request) answer
+MayGet request answer =
+    IsGivenFor (ways_of request) (ReadsFiles request) (IsComposing request) (Prints request) answer
 
 -- And so of each that words and guards ask for.
 abbrev pub IsAllowed : List (List ℕ) → List Guard → Answer → Type 0
-IsAllowed words guards answer = (request : Request) → Asks words guards request → uses_store words request ≡ true → MayGet request answer
+IsAllowed words guards answer =
+    (request : Request) → Asks words guards request → uses_store words request ≡ true
+    → MayGet request answer
 
 -- Where a file was found changed, it is the one among some names which the inputs answered last to
 -- have ended too early, and the place is that of this end.
@@ -348,35 +390,48 @@ IsChangedIn names last (Damaged group stored computed) = ⊤
 
 -- The same among the files that words and guards ask for.
 abbrev pub IsChangedAt : List (List ℕ) → List Guard → EarlyEnd → Answer → Type 0
-IsChangedAt words guards last answer = (request : Request) → Asks words guards request → IsChangedIn (names_asked request words) last answer
+IsChangedAt words guards last answer =
+    (request : Request) → Asks words guards request
+    → IsChangedIn (names_asked request words) last answer
 
 -- No count of the inputs and the output rose.
-abbrev pub AreSteady : (inputs_before inputs_now ends_before ends_now out_before out_now : ℕ) → Type 0
-AreSteady inputs_before inputs_now ends_before ends_now out_before out_now = (inputs_now ≡ inputs_before) × (ends_now ≡ ends_before) × (out_now ≡ out_before)
+abbrev pub AreSteady : (inputs_before inputs_now ends_before ends_now out_before out_now : ℕ)
+    → Type 0
+AreSteady inputs_before inputs_now ends_before ends_now out_before out_now =
+    (inputs_now ≡ inputs_before) × (ends_now ≡ ends_before) × (out_now ≡ out_before)
 
 -- ---- crashes
 
 -- What a crash at any moment of a run may leave, by what is asked for; L says of some images that
 -- it leaves no others. A request that only reads leaves what a crash could leave before, and so
 -- does one that makes a store where there is something.
-abbrev pub AtStoredMoment : (told : Option (List (List ℕ × List ℕ))) → stored.Request → List (List ℕ) → Pending → (seen : List ℕ) → (L : (List ℕ → Type 0) → Type 0) → Type 0
+abbrev pub AtStoredMoment : (told : Option (List (List ℕ × List ℕ))) → stored.Request
+    → List (List ℕ) → Pending → (seen : List ℕ) → (L : (List ℕ → Type 0) → Type 0) → Type 0
 AtStoredMoment told (OfStreams request) words pending seen L = L (IsImage pending)
 AtStoredMoment told (InitStore store) words pending seen L = 0 < length seen → L (IsImage pending)
-AtStoredMoment told (DropEntry store name) words pending seen L = L (LeftByDrop pending seen (name_at words name))
+AtStoredMoment told (DropEntry store name) words pending seen L =
+    L (LeftByDrop pending seen (name_at words name))
 AtStoredMoment told (ReceiveFiles guards store at) words pending seen L =
     IfAllTold told (files_in (drop at words))
-    (λ files. AllByRecursion IsBytes files → L (LeftByReceive pending seen (new_guards guards) (with_overrides (drop at words) files) []))
+    (λ files. AllByRecursion IsBytes files
+    → L (LeftByReceive pending seen (new_guards guards)
+    (with_overrides (drop at words) files) []))
 AtStoredMoment told (ListStore store) words pending seen L = L (IsImage pending)
 AtStoredMoment told (ShowEntry store name) words pending seen L = L (IsImage pending)
 AtStoredMoment told (CatFile store name path) words pending seen L = L (IsImage pending)
 AtStoredMoment told (ScrubStore store) words pending seen L = L (IsImage pending)
 
-abbrev pub AtAnyMoment : (told : Option (List (List ℕ × List ℕ))) → Request → List (List ℕ) → Pending → (seen : List ℕ) → (L : (List ℕ → Type 0) → Type 0) → Type 0
-AtAnyMoment told (OfStore request) words pending seen L = AtStoredMoment told request words pending seen L
+abbrev pub AtAnyMoment : (told : Option (List (List ℕ × List ℕ))) → Request → List (List ℕ)
+    → Pending → (seen : List ℕ) → (L : (List ℕ → Type 0) → Type 0) → Type 0
+AtAnyMoment told (OfStore request) words pending seen L =
+    AtStoredMoment told request words pending seen L
 AtAnyMoment told (SendEntry store name) words pending seen L = L (IsImage pending)
 AtAnyMoment told (RestoreEntry store name) words pending seen L = L (IsImage pending)
 AtAnyMoment told (TakeTurns store schedule turns) words pending seen L =
-    IfAllTold told turns.files (λ files. AllByRecursion IsBytes files → L (LeftByTurns pending seen (in_turns schedule files (new_guards turns.guards) turns.shares) []))
+    IfAllTold told turns.files
+    (λ files. AllByRecursion IsBytes files
+    → L (LeftByTurns pending seen
+    (in_turns schedule files (new_guards turns.guards) turns.shares) []))
 
 -- What holds where a store was made, or an entry dropped.
 abbrev pub IfStoredMade : stored.Request → Type 0 → Type 0
@@ -398,12 +453,23 @@ IfMadeOrDropped (TakeTurns store schedule turns) P = ⊤
 -- Where files are received, each image that a crash may leave when the run has ended has each part
 -- complete whose line stands whole in what was written.
 abbrev pub Acknowledges : List (List ℕ) → List Guard → Outside → (early late : Pending) → Type 0
-Acknowledges words guards met early late = (specs : List GuardSpec) (store at : ℕ) → Asks words guards (OfStore (ReceiveFiles specs store at))
-    → IfAllTold met.told (files_in (drop at words)) (λ files. Wrote met.before met.after (λ written. AllByRecursion IsBytes files
-    → (image : List ℕ) → IsImage late image → LeftByReceive early met.image (new_guards specs) (with_overrides (drop at words) files) written image))
+Acknowledges words guards met early late =
+    (specs : List GuardSpec) (store at : ℕ)
+    → Asks words guards (OfStore (ReceiveFiles specs store at))
+    → IfAllTold met.told (files_in (drop at words))
+    (λ files. Wrote met.before met.after (λ written. AllByRecursion IsBytes files
+    → (image : List ℕ) → IsImage late image
+    → LeftByReceive early met.image (new_guards specs)
+    (with_overrides (drop at words) files) written image))
 
 -- So it is where files take turns.
-abbrev pub AcknowledgesInTurn : List (List ℕ) → List Guard → Outside → (early late : Pending) → Type 0
-AcknowledgesInTurn words guards met early late = (store : ℕ) (schedule : List ℕ) (turns : TurnFiles) → Asks words guards (TakeTurns store schedule turns)
-    → IfAllTold met.told turns.files (λ files. Wrote met.before met.after (λ written. AllByRecursion IsBytes files
-    → (image : List ℕ) → IsImage late image → LeftByTurns early met.image (in_turns schedule files (new_guards turns.guards) turns.shares) written image))
+abbrev pub AcknowledgesInTurn : List (List ℕ) → List Guard → Outside → (early late : Pending)
+    → Type 0
+AcknowledgesInTurn words guards met early late =
+    (store : ℕ) (schedule : List ℕ) (turns : TurnFiles)
+    → Asks words guards (TakeTurns store schedule turns)
+    → IfAllTold met.told turns.files
+    (λ files. Wrote met.before met.after (λ written. AllByRecursion IsBytes files
+    → (image : List ℕ) → IsImage late image
+    → LeftByTurns early met.image
+    (in_turns schedule files (new_guards turns.guards) turns.shares) written image))

@@ -27,39 +27,45 @@ BeginsWith first [] = ⊥
 BeginsWith first (e ∷ es) = e.0 ≡ first
 
 -- What a map keeps of its pages.
-pub record AreKept {K V : Type 0} (order : K → K → Ordering) (pages : List (Map K V)) (len : ℕ) : Type 0 where
+pub record AreKept {K V : Type 0} (order : K → K → Ordering) (pages : List (Map K V))
+    (len : ℕ) : Type 0 where
   pub rises : Rises order (joined pages)
   pub filled : AreFilled pages
   pub counted : len ≡ length (joined pages)
 
 -- The entry at place i has the key.
-pub record IsAt {K V : Type 0} (order : K → K → Ordering) (key : K) (es : Map K V) (i : ℕ) : Type 0 where
+pub record IsAt {K V : Type 0} (order : K → K → Ordering) (key : K) (es : Map K V)
+    (i : ℕ) : Type 0 where
   pub in_range : i < length es
   pub below : AllByRecursion (λ e. order e.0 key ≡ Less) (take i es)
   pub here : (d : K × V) → order (slice_index_or es i d).0 key ≡ Equal
   pub after : AllByRecursion (λ e. order e.0 key ≡ Greater) (drop (i + 1) es)
 
 -- The key would go to place i.
-pub record IsGap {K V : Type 0} (order : K → K → Ordering) (key : K) (es : Map K V) (i : ℕ) : Type 0 where
+pub record IsGap {K V : Type 0} (order : K → K → Ordering) (key : K) (es : Map K V)
+    (i : ℕ) : Type 0 where
   pub in_range : i ≤ length es
   pub below : AllByRecursion (λ e. order e.0 key ≡ Less) (take i es)
   pub after : AllByRecursion (λ e. order e.0 key ≡ Greater) (drop i es)
 
 -- The key's place is in page i, if it is anywhere.
-pub record IsHome {K V : Type 0} (order : K → K → Ordering) (key : K) (pages : List (Map K V)) (i : ℕ) : Type 0 where
+pub record IsHome {K V : Type 0} (order : K → K → Ordering) (key : K) (pages : List (Map K V))
+    (i : ℕ) : Type 0 where
   pub in_range : 0 < length pages → i < length pages
   pub below : AllByRecursion (λ e. order e.0 key ≡ Less) (joined (take i pages))
   pub after : AllByRecursion (λ e. order e.0 key ≡ Greater) (joined (drop (i + 1) pages))
 
 -- The entry of the key stands at a place of a page.
-pub record IsThere {K V : Type 0} (order : K → K → Ordering) (key : K) (pages : List (Map K V)) (page place : ℕ) : Type 0 where
+pub record IsThere {K V : Type 0} (order : K → K → Ordering) (key : K) (pages : List (Map K V))
+    (page place : ℕ) : Type 0 where
   pub home : IsHome order key pages page
   pub in_range : page < length pages
   pub here : IsAt order key (slice_index_or pages page []) place
 
 -- The key has no entry, and a new one would go to a place of a page. Where there are no pages, it
 -- would begin the first.
-pub record IsFree {K V : Type 0} (order : K → K → Ordering) (key : K) (pages : List (Map K V)) (page place : ℕ) : Type 0 where
+pub record IsFree {K V : Type 0} (order : K → K → Ordering) (key : K) (pages : List (Map K V))
+    (page place : ℕ) : Type 0 where
   pub home : IsHome order key pages page
   pub gap : page < length pages → IsGap order key (slice_index_or pages page []) place
 
@@ -69,9 +75,11 @@ starts_by order key [] = true
 starts_by order key (e ∷ es) = not (is_gt (order e.0 key))
 
 -- Among the entries, those from place i on are above the key, and those before it are not.
-pub record IsPast {K V : Type 0} (order : K → K → Ordering) (key : K) (es : Map K V) (i : ℕ) : Type 0 where
+pub record IsPast {K V : Type 0} (order : K → K → Ordering) (key : K) (es : Map K V)
+    (i : ℕ) : Type 0 where
   pub in_range : i ≤ length es
-  pub skips : (zs : Map K V) → entry_after order key (es ++ zs) ≡ entry_after order key (drop i es ++ zs)
+  pub skips : (zs : Map K V)
+      → entry_after order key (es ++ zs) ≡ entry_after order key (drop i es ++ zs)
   pub after : AllByRecursion (λ e. order e.0 key ≡ Greater) (drop i es)
 
 -- Page i has become another one.
@@ -80,11 +88,14 @@ replaced ps i p = take i ps ++ p ∷ drop (i + 1) ps
 
 -- Page i has become two, the second of which begins at its place `cut`.
 abbrev pub in_two : {X : Type 0} → List (List X) → ℕ → ℕ → List (List X)
-in_two ps i cut = take i ps ++ take cut (slice_index_or ps i []) ∷ drop cut (slice_index_or ps i []) ∷ drop (i + 1) ps
+in_two ps i cut =
+    take i ps
+    ++ take cut (slice_index_or ps i []) ∷ drop cut (slice_index_or ps i []) ∷ drop (i + 1) ps
 
 -- Page i and the one behind it have become one.
 abbrev pub in_one : {X : Type 0} → List (List X) → ℕ → List (List X)
-in_one ps i = take i ps ++ (slice_index_or ps i [] ++ slice_index_or ps (i + 1) []) ∷ drop (i + 2) ps
+in_one ps i =
+    take i ps ++ (slice_index_or ps i [] ++ slice_index_or ps (i + 1) []) ∷ drop (i + 2) ps
 
 -- The value of the entry at place i is written over, and its key stays.
 pub record IsSetAt {K V : Type 0} (old new : Map K V) (i : ℕ) (value : V) : Type 0 where
@@ -95,7 +106,8 @@ pub record IsSetAt {K V : Type 0} (old new : Map K V) (i : ℕ) (value : V) : Ty
 
 -- The value of the entry at place i becomes another one, its key stays, and the edit is what it
 -- becomes by the value that was there.
-pub record IsEditedAt {K V E : Type 0} (become : V → V) (left : V → E) (old new : Map K V) (after : E) (i : ℕ) : Type 0 where
+pub record IsEditedAt {K V E : Type 0} (become : V → V) (left : V → E) (old new : Map K V)
+    (after : E) (i : ℕ) : Type 0 where
   pub key : K
   pub was : V
   pub before : old ≡ take i old ++ (key, was) ∷ drop (i + 1) old

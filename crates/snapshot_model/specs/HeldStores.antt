@@ -28,7 +28,9 @@ held_at image cell = option_map (λ place. get_or image place 0) cell
 
 -- What holds where an image stands for a store, and what holds where it stands for none.
 abbrev pub ByHeld : List ℕ → (Store (Option ℕ) → Type 0) → Type 0 → Type 0
-ByHeld image P none = ((store : Store (Option ℕ)) → StandsHeld image store → P store) × ((group : ℕ) → StandsForNone image group → none)
+ByHeld image P none =
+    ((store : Store (Option ℕ)) → StandsHeld image store → P store)
+    × ((group : ℕ) → StandsForNone image group → none)
 
 -- ---- what is due
 
@@ -49,7 +51,8 @@ send_output form name store = formed form (complete_named name store)
 abbrev pub IsSendDue : Form → (image name : List ℕ) → Due → List ℕ → Type 0
 IsSendDue form image name (dues.Ends due) written = (due ≡ DoneWhole)
     × ((store : Store (Option ℕ)) × StandsHeld image store
-    × ((found : Entry (Subvolume (Option ℕ)) × Subvolume (Option ℕ)) × (complete_named name store ≡ Some found) × (written ≡ formed form (Some found))))
+    × ((found : Entry (Subvolume (Option ℕ)) × Subvolume (Option ℕ))
+    × (complete_named name store ≡ Some found) × (written ≡ formed form (Some found))))
 IsSendDue form image name (dues.Missing what) written = (what ≡ name) × (written ≡ [])
     × ((store : Store (Option ℕ)) × StandsHeld image store × (complete_named name store ≡ None))
 IsSendDue form image name (dues.NotStore group) written = (written ≡ []) × StandsForNone image group
@@ -62,17 +65,20 @@ IsSendDue form image name (dues.Damaged group stored computed) written = ⊥
 -- A front part of it is written where there was no memory or the device failed, and nothing where
 -- there is no store.
 abbrev pub SendBefore : Form → (image name written : List ℕ) → Type 0
-SendBefore form image name written = ByHeld image (λ store. IsFrontOf (send_output form name store) written) (written ≡ [])
+SendBefore form image name written =
+    ByHeld image (λ store. IsFrontOf (send_output form name store) written) (written ≡ [])
 
 -- Not all of it is written where standard output failed, which it does not where there is nothing
 -- to write.
 abbrev pub SendCut : Form → (image name written : List ℕ) → Type 0
-SendCut form image name written = ByHeld image (λ store. IsProperFrontOf (send_output form name store) written) ⊥
+SendCut form image name written =
+    ByHeld image (λ store. IsProperFrontOf (send_output form name store) written) ⊥
 
 -- An answer that the image and the name decide is the one that is due; else something outside
 -- failed, or there was no memory. The image is as it was.
 abbrev pub SendSays : Form → (image name : List ℕ) → Answer → List ℕ → Type 0
-SendSays form image name (OfAnyWord Done) written = IsSendDue form image name (dues.Ends DoneWhole) written
+SendSays form image name (OfAnyWord Done) written =
+    IsSendDue form image name (dues.Ends DoneWhole) written
 SendSays form image name (OfAnyWord OutputFault) written = SendCut form image name written
 SendSays form image name (OfAnyWord NoMemory) written = SendBefore form image name written
 SendSays form image name (OfAnyWord (Refused verdict)) written = ⊥
@@ -82,11 +88,14 @@ SendSays form image name (OfAnyWord (TooMuch sum)) written = ⊥
 SendSays form image name (OfAnyWord (InputChanged file place)) written = ⊥
 SendSays form image name (OfAnyWord Usage) written = ⊥
 SendSays form image name StoreFault written = SendBefore form image name written
-SendSays form image name (NotStore group) written = IsSendDue form image name (dues.NotStore group) written
-SendSays form image name (Missing what) written = IsSendDue form image name (dues.Missing what) written
+SendSays form image name (NotStore group) written =
+    IsSendDue form image name (dues.NotStore group) written
+SendSays form image name (Missing what) written =
+    IsSendDue form image name (dues.Missing what) written
 SendSays form image name (LogFull end wanted limit) written = ⊥
 SendSays form image name (StoreThere size) written = ⊥
 SendSays form image name (Damaged group stored computed) written = ⊥
 
 abbrev pub SendAnswers : Form → (image name : List ℕ) → Answer → (written left : List ℕ) → Type 0
-SendAnswers form image name answer written left = (left ≡ image) × SendSays form image name answer written
+SendAnswers form image name answer written left =
+    (left ≡ image) × SendSays form image name answer written

@@ -42,7 +42,11 @@ pub record Listed (C : Type 0) : Type 0 where
 -- An inode of a subvolume. In a sound one each inode that a path leads to is there and has a first
 -- path.
 unfoldable pub listed : {C : Type 0} → Subvolume C → ℕ → Listed C
-listed s ino = record { first = unwrap_or (first_path s ino) []; inode = unwrap_or (inode_at s ino) new_directory }
+listed s ino =
+    record {
+      first = unwrap_or (first_path s ino) [];
+      inode = unwrap_or (inode_at s ino) new_directory;
+    }
 
 -- All paths with what they lead to, the empty path first.
 unfoldable pub listing : {C : Type 0} → Subvolume C → Map (List ℕ) (Listed C)

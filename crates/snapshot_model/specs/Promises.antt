@@ -9,15 +9,21 @@ use Rattle.snapshot_model.specs.SentLaws.{IsNew, FileIsReceivedAs}
 
 -- What holds of the complete subvolume of a name in the store that an image stands for, if there is
 -- one.
-abbrev pub OfNamed : (image name : List ℕ) → (Entry (Subvolume (Option ℕ)) × Subvolume (Option ℕ) → Type 0) → Type 0
-OfNamed image name P = (store : Store (Option ℕ)) → StandsHeld image store → (found : Entry (Subvolume (Option ℕ)) × Subvolume (Option ℕ)) → complete_named name store ≡ Some found → P found
+abbrev pub OfNamed : (image name : List ℕ)
+    → (Entry (Subvolume (Option ℕ)) × Subvolume (Option ℕ) → Type 0) → Type 0
+OfNamed image name P =
+    (store : Store (Option ℕ)) → StandsHeld image store
+    → (found : Entry (Subvolume (Option ℕ)) × Subvolume (Option ℕ))
+    → complete_named name store ≡ Some found → P found
 
 -- Every store that has neither its name nor its uuid takes what was written, and has an equal
 -- subvolume then, holes among its cells.
 abbrev pub IsReceivedAnew : (image name written : List ℕ) → Type 0
-IsReceivedAnew image name written = OfNamed image name (λ found. (other : Store ℕ) → IsNew found.0.name found.0.key other
+IsReceivedAnew image name written =
+    OfNamed image name (λ found. (other : Store ℕ) → IsNew found.0.name found.0.key other
     → FileIsReceivedAs found.0.name found.0.key found.1 other written)
 
 -- Some of its stream is missing.
 abbrev pub IsUnfinished : Form → (image name written : List ℕ) → Type 0
-IsUnfinished form image name written = OfNamed image name (λ found. IsProperFrontOf (formed form (Some found)) written)
+IsUnfinished form image name written =
+    OfNamed image name (λ found. IsProperFrontOf (formed form (Some found)) written)

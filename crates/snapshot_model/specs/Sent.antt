@@ -49,7 +49,8 @@ stretch_commands path stretch = writes_from (length stretch.bytes) path stretch.
 
 abbrev pub contents_commands : List ℕ → List (Option ℕ) → List Command
 contents_commands path cells =
-    flat_map (stretch_commands path) (stretches 0 cells) ++ (if ends_in_hole cells then Truncate (length cells) path ∷ [] else [])
+    flat_map (stretch_commands path) (stretches 0 cells)
+    ++ (if ends_in_hole cells then Truncate (length cells) path ∷ [] else [])
 
 -- ---- an inode
 
@@ -73,18 +74,21 @@ flags_commands path flags = if flags == 0 then [] else FileAttr path flags ∷ [
 
 abbrev pub setting_commands : {C : Type 0} → List ℕ → Inode C → List Command
 setting_commands path inode =
-    Chown inode.uid inode.gid path ∷ Chmod inode.mode path ∷ (flags_commands path inode.flags ++ Utimes inode.mtime inode.atime path ∷ [])
+    Chown inode.uid inode.gid path ∷ Chmod inode.mode path
+    ∷ (flags_commands path inode.flags ++ Utimes inode.mtime inode.atime path ∷ [])
 
 abbrev pub inode_commands : List ℕ → Inode (Option ℕ) → List Command
 inode_commands path inode =
     making_commands path inode
-    ++ (map (λ e. SetXattr e.0 e.1 path) inode.xattrs ++ (contents_commands path inode.cells ++ setting_commands path inode))
+    ++ (map (λ e. SetXattr e.0 e.1 path) inode.xattrs
+    ++ (contents_commands path inode.cells ++ setting_commands path inode))
 
 -- ---- the subvolume
 
 -- A path that is not its inode's first is one more name for it.
 abbrev pub listed_commands : List ℕ × Listed (Option ℕ) → List Command
-listed_commands e = if bytes_eq e.0 e.1.first then inode_commands e.0 e.1.inode else Link e.0 e.1.first ∷ []
+listed_commands e =
+    if bytes_eq e.0 e.1.first then inode_commands e.0 e.1.inode else Link e.0 e.1.first ∷ []
 
 unfoldable pub sent_edits : Subvolume (Option ℕ) → List Command
 sent_edits s = flat_map listed_commands (listing s)
@@ -97,11 +101,14 @@ unfoldable pub sent_version : Subvolume (Option ℕ) → ℕ
 sent_version s = if list_any (λ e. not (e.1.inode.flags == 0)) (listing s) then 2 else 1
 
 unfoldable pub sent_stream : List ℕ → Key → Subvolume (Option ℕ) → List ℕ
-sent_stream name key s = stream_header (sent_version s) ++ canonical_all (sent_version s) (sent name key s)
+sent_stream name key s =
+    stream_header (sent_version s) ++ canonical_all (sent_version s) (sent name key s)
 
 -- ---- edits one after the other
 
 -- What commands leave of a subvolume, or the first refusal.
-unfoldable pub edit_all : List Command → Subvolume (Option ℕ) → Result (Subvolume (Option ℕ)) Refusal
+unfoldable pub edit_all : List Command → Subvolume (Option ℕ)
+    → Result (Subvolume (Option ℕ)) Refusal
 edit_all [] s = Ok s
-edit_all (command ∷ commands) s = edit None (held (bytes_of command)) command s >>= edit_all commands
+edit_all (command ∷ commands) s =
+    edit None (held (bytes_of command)) command s >>= edit_all commands

@@ -59,11 +59,15 @@ pub record MakesAgain (edits : List Command) (s t : Subvolume (Option ℕ)) : Ty
 
 -- So are those that are sent.
 abbrev pub SentEditsAreTaken : Type 0
-SentEditsAreTaken = (s : Subvolume (Option ℕ)) → IsSendable s → (t : Subvolume (Option ℕ)) × MakesAgain (sent_edits s) s t
+SentEditsAreTaken =
+    (s : Subvolume (Option ℕ)) → IsSendable s
+    → (t : Subvolume (Option ℕ)) × MakesAgain (sent_edits s) s t
 
 -- And those that are restored, where inodes have numbers.
 abbrev pub RestoredEditsAreTaken : Type 0
-RestoredEditsAreTaken = (s : Subvolume (Option ℕ)) → IsSendable s → s.next ≤ greatest_number → (t : Subvolume (Option ℕ)) × MakesAgain (restored_edits s) s t
+RestoredEditsAreTaken =
+    (s : Subvolume (Option ℕ)) → IsSendable s → s.next ≤ greatest_number
+    → (t : Subvolume (Option ℕ)) × MakesAgain (restored_edits s) s t
 
 -- ---- over stores
 
@@ -78,10 +82,20 @@ named name key s = record { name = name; key = key; contents = s }
 
 -- Items are received into a store as a new entry at its end, with the name, the key and the listing
 -- of a given subvolume.
-pub record IsReceivedAs {C : Type 0} (zero_cell : C) (cells : Item → List C) (whole : Named C) (store : Store C) (items : List Item) : Type 0 where
+pub record IsReceivedAs {C : Type 0} (zero_cell : C) (cells : Item → List C) (whole : Named C)
+    (store : Store C) (items : List Item) : Type 0 where
   pub after : Subvolume C
   pub run : run_items zero_cell cells (start_of store) items
-      ≡ record { state = start_of (store ++ record { name = whole.name; key = whole.key; parent = None; contents = Some after } ∷ []); refused = None }
+      ≡ record {
+        state = start_of
+            (store ++ record {
+              name = whole.name;
+              key = whole.key;
+              parent = None;
+              contents = Some after;
+            } ∷ []);
+        refused = None;
+      }
   pub same : listing after ≡ listing whole.contents
 
 -- A store has neither the name nor the uuid.
@@ -90,17 +104,24 @@ IsNew name key store = (has_name name store ≡ false) × (has_uuid key.uuid sto
 
 -- What is sent of a subvolume is accepted by every such store, over cells that are a byte or zero
 -- and over bytes.
-pub record AreReceived (name : List ℕ) (key : Key) (s : Subvolume (Option ℕ)) (items : List Item) : Type 0 where
-  pub cells : (store : Store (Option ℕ)) → IsNew name key store → IsReceivedAs None held_cells (named name key s) store items
-  pub bytes : (store : Store ℕ) → IsNew name key store → IsReceivedAs 0 byte_cells (named name key (recelled byte_of s)) store items
+pub record AreReceived (name : List ℕ) (key : Key) (s : Subvolume (Option ℕ))
+    (items : List Item) : Type 0 where
+  pub cells : (store : Store (Option ℕ)) → IsNew name key store
+      → IsReceivedAs None held_cells (named name key s) store items
+  pub bytes : (store : Store ℕ) → IsNew name key store
+      → IsReceivedAs 0 byte_cells (named name key (recelled byte_of s)) store items
 
 abbrev pub SentIsReceived : Type 0
-SentIsReceived = (name : List ℕ) (key : Key) (s : Subvolume (Option ℕ)) (items : List Item) → IsSendable s → is_name name ≡ true
+SentIsReceived =
+    (name : List ℕ) (key : Key) (s : Subvolume (Option ℕ)) (items : List Item) → IsSendable s
+    → is_name name ≡ true
     → commands_of items ≡ sent name key s → AreReceived name key s items
 
 -- So is what is restored.
 abbrev pub RestoredIsReceived : Type 0
-RestoredIsReceived = (name : List ℕ) (key : Key) (s : Subvolume (Option ℕ)) (items : List Item) → IsSendable s → s.next ≤ greatest_number → is_name name ≡ true
+RestoredIsReceived =
+    (name : List ℕ) (key : Key) (s : Subvolume (Option ℕ)) (items : List Item) → IsSendable s
+    → s.next ≤ greatest_number → is_name name ≡ true
     → commands_of items ≡ restored name key s → AreReceived name key s items
 
 -- ---- as bytes
@@ -127,31 +148,47 @@ pub record CanBeTold (name : List ℕ) (key : Key) (s : Subvolume (Option ℕ)) 
 
 -- The version of the stream can say each command.
 abbrev pub SentIsSpellable : Type 0
-SentIsSpellable = (name : List ℕ) (key : Key) (s : Subvolume (Option ℕ)) → IsSendable s → CanBeTold name key s
+SentIsSpellable =
+    (name : List ℕ) (key : Key) (s : Subvolume (Option ℕ)) → IsSendable s → CanBeTold name key s
     → AllByRecursion (IsSpellable (sent_version s)) (sent name key s)
 
 abbrev pub RestoredIsSpellable : Type 0
-RestoredIsSpellable = (name : List ℕ) (key : Key) (s : Subvolume (Option ℕ)) → IsSendable s → s.next ≤ greatest_number → CanBeTold name key s
+RestoredIsSpellable =
+    (name : List ℕ) (key : Key) (s : Subvolume (Option ℕ)) → IsSendable s → s.next ≤ greatest_number
+    → CanBeTold name key s
     → AllByRecursion (IsSpellable (sent_version s)) (restored name key s)
 
 -- A file is received into a store as a new entry with the same listing.
 abbrev pub FileIsReceivedAs : List ℕ → Key → Subvolume (Option ℕ) → Store ℕ → List ℕ → Type 0
 FileIsReceivedAs name key s store file = (after : Subvolume ℕ)
-    × (receive store (file ∷ []) ≡ record { state = start_of (store ++ record { name = name; key = key; parent = None; contents = Some after } ∷ []); refused = None })
+    × (receive store (file ∷ [])
+    ≡ record {
+      state = start_of
+          (store ++ record { name = name; key = key; parent = None; contents = Some after } ∷ []);
+      refused = None;
+    })
     × (listing after ≡ listing (recelled byte_of s))
 
 -- So both streams are received by every store of bytes that has neither the name nor the uuid.
 abbrev pub SentStreamIsReceived : Type 0
-SentStreamIsReceived = (name : List ℕ) (key : Key) (s : Subvolume (Option ℕ)) (store : Store ℕ) → IsSendable s → is_name name ≡ true
-    → CanBeTold name key s → IsNew name key store → FileIsReceivedAs name key s store (sent_stream name key s)
+SentStreamIsReceived =
+    (name : List ℕ) (key : Key) (s : Subvolume (Option ℕ)) (store : Store ℕ) → IsSendable s
+    → is_name name ≡ true
+    → CanBeTold name key s → IsNew name key store
+    → FileIsReceivedAs name key s store (sent_stream name key s)
 
 abbrev pub RestoredStreamIsReceived : Type 0
-RestoredStreamIsReceived = (name : List ℕ) (key : Key) (s : Subvolume (Option ℕ)) (store : Store ℕ) → IsSendable s → s.next ≤ greatest_number → is_name name ≡ true
-    → CanBeTold name key s → IsNew name key store → FileIsReceivedAs name key s store (restored_stream name key s)
+RestoredStreamIsReceived =
+    (name : List ℕ) (key : Key) (s : Subvolume (Option ℕ)) (store : Store ℕ) → IsSendable s
+    → s.next ≤ greatest_number → is_name name ≡ true
+    → CanBeTold name key s → IsNew name key store
+    → FileIsReceivedAs name key s store (restored_stream name key s)
 
 -- Enough numbers are there where no subvolume has more inodes than numbers from the root's on.
 abbrev pub MadeIsSendable : Type 0
-MadeIsSendable = (s : Subvolume (Option ℕ)) → IsLawful s → AllByRecursion (λ e. IsMade e.1) s.inodes → root + length s.inodes ≤ greatest_number → IsSendable s
+MadeIsSendable =
+    (s : Subvolume (Option ℕ)) → IsLawful s → AllByRecursion (λ e. IsMade e.1) s.inodes
+    → root + length s.inodes ≤ greatest_number → IsSendable s
 
 -- There is a number for each inode, from the root's on, and none is above the greatest.
 pub record HasNumbers {C : Type 0} (s : Subvolume C) : Type 0 where
@@ -172,8 +209,10 @@ pub record IsKept (s : Subvolume (Option ℕ)) : Type 0 where
 -- can say; and what a clone does, from a source that has it.
 pub record EditsKeepIt : Type 0 where
   pub start : IsKept root_alone
-  pub edits : (version : ℕ) (c : Command) (s t : Subvolume (Option ℕ)) → IsSpellable version c → IsKept s → edit None (held (bytes_of c)) c s ≡ Ok t → IsKept t
-  pub clones : (part source t : Subvolume (Option ℕ)) (is_own : Bool) (values : CloneValues) → IsKept part → IsKept source
+  pub edits : (version : ℕ) (c : Command) (s t : Subvolume (Option ℕ)) → IsSpellable version c
+      → IsKept s → edit None (held (bytes_of c)) c s ≡ Ok t → IsKept t
+  pub clones : (part source t : Subvolume (Option ℕ)) (is_own : Bool) (values : CloneValues)
+      → IsKept part → IsKept source
       → clone None part (Some source) is_own values ≡ Ok t → IsKept t
 
 -- All of it can be sent.

@@ -37,15 +37,22 @@ pub data Due : Type 0 where
 abbrev pub OverStore : List ℕ → (Store ℕ → Due → Type 0) → Due → Type 0
 OverStore image over (NotStore group) = StandsForNone image group
 OverStore image over (Ends due) = (store : Store ℕ) × StandsFor image store × over store (Ends due)
-OverStore image over (Missing what) = (store : Store ℕ) × StandsFor image store × over store (Missing what)
-OverStore image over (LogFull end wanted limit) = (store : Store ℕ) × StandsFor image store × over store (LogFull end wanted limit)
+OverStore image over (Missing what) =
+    (store : Store ℕ) × StandsFor image store × over store (Missing what)
+OverStore image over (LogFull end wanted limit) =
+    (store : Store ℕ) × StandsFor image store × over store (LogFull end wanted limit)
 OverStore image over (StoreThere size) = ⊥
 OverStore image over (Damaged group stored computed) = ⊥
 
 -- The contents of the entry of a name, if there is one and it is complete.
 unfoldable pub complete_named : {S : Type 0} → List ℕ → List (Entry S) → Option (Entry S × S)
 complete_named name [] = None
-complete_named name (e ∷ store) = if bytes_eq e.name name then elim e.contents [ None ↦ None | Some s ↦ Some (e, s) ] else complete_named name store
+complete_named name (e ∷ store) =
+    if bytes_eq e.name name then elim e.contents [
+      | None ↦ None
+      | Some s ↦
+          Some (e, s)
+    ] else complete_named name store
 
 -- The bytes of the file that a path leads to, if it leads to one.
 abbrev pub file_of : {C : Type 0} → Subvolume C → Option (Inode C) → Option (List C)
@@ -53,7 +60,12 @@ file_of s None = None
 file_of s (Some inode) = Some inode.cells
 
 unfoldable pub file_at : {C : Type 0} → List ℕ → Subvolume C → Option (List C)
-file_at path s = elim (walk s path) [ Err refusal ↦ None | Ok ino ↦ if is_file s ino then file_of s (inode_at s ino) else None ]
+file_at path s =
+    elim (walk s path) [
+      | Err refusal ↦ None
+      | Ok ino ↦
+          if is_file s ino then file_of s (inode_at s ino) else None
+    ]
 
 -- Where something is missing, that; else all was done.
 abbrev pub unless_missing : {A : Type 0} → List ℕ → Option A → Due
@@ -67,11 +79,21 @@ abbrev pub show_due : List ℕ → Store ℕ → Due
 show_due name store = unless_missing name (complete_named name store)
 
 abbrev pub cat_due : List ℕ → List ℕ → Store ℕ → Due
-cat_due name path store = elim (complete_named name store) [ None ↦ Missing name | Some found ↦ unless_missing path (file_at path found.1) ]
+cat_due name path store =
+    elim (complete_named name store) [
+      | None ↦ Missing name
+      | Some found ↦
+          unless_missing path (file_at path found.1)
+    ]
 
 -- What they print.
 abbrev pub show_output : List ℕ → Store ℕ → List ℕ
-show_output name store = elim (complete_named name store) [ None ↦ [] | Some found ↦ shown found.0.name found.0.key found.1 ]
+show_output name store =
+    elim (complete_named name store) [
+      | None ↦ []
+      | Some found ↦
+          shown found.0.name found.0.key found.1
+    ]
 
 abbrev pub cat_output : List ℕ → List ℕ → Store ℕ → List ℕ
 cat_output name path store = elim (complete_named name store) [
@@ -85,7 +107,9 @@ cat_output name path store = elim (complete_named name store) [
 -- checksum and a gate.
 unfoldable pub first_full : ℕ → List (ℕ × ℕ) → Option Due
 first_full limit [] = None
-first_full limit (piece ∷ pieces) = if nat_lt limit (piece.0 + piece.1 + reserve) then Some (LogFull piece.0 piece.1 limit) else first_full limit pieces
+first_full limit (piece ∷ pieces) =
+    if nat_lt limit (piece.0 + piece.1 + reserve) then Some
+    (LogFull piece.0 piece.1 limit) else first_full limit pieces
 
 -- Where the last of some pieces ends.
 abbrev pub end_behind : ℕ → List (ℕ × ℕ) → ℕ
@@ -104,13 +128,16 @@ seal_len = reserve - 1
 
 -- What a head puts behind a gate: its Mark, and the start of its Body behind that.
 abbrev pub head_pieces : ℕ → ℕ → List (ℕ × ℕ)
-head_pieces gate frame = pieces_from gate (9 ∷ (1 + frame) ∷ []) ++ pieces_from (gate + 9 + (1 + frame) + seal_len) (9 ∷ 18 ∷ [])
+head_pieces gate frame =
+    pieces_from gate (9 ∷ (1 + frame) ∷ [])
+    ++ pieces_from (gate + 9 + (1 + frame) + seal_len) (9 ∷ 18 ∷ [])
 
 -- What an item puts at a place.
 abbrev pub item_pieces : ℕ → Item → List (ℕ × ℕ)
 item_pieces place item =
     if is_some (head_of item.command) then head_pieces place (length (canonical 1 item.command))
-    else (if is_end item.command then [] else (place, length (canonical item.version item.command)) ∷ [])
+    else (if is_end item.command then [] else (place, length (canonical item.version item.command))
+    ∷ [])
 
 -- A head and END complete the part that is there: its checksum stands behind it.
 abbrev pub place_after : Option (Part ℕ) → Command → ℕ → ℕ
@@ -124,13 +151,15 @@ place_after (Some part) command place = if is_edit command then place else place
 unfoldable pub receive_from : ℕ → ℕ → Watched (State ℕ) → List Item → Option Due
 receive_from limit place w [] = None
 receive_from limit place w (item ∷ items) =
-    let after : After (Watched (State ℕ)) = watched_step (λ s i. step 0 (byte_cells i) s i.command) w item in
+    let after : After (Watched (State ℕ)) =
+    watched_step (λ s i. step 0 (byte_cells i) s i.command) w item in
     let pieces : List (ℕ × ℕ) = item_pieces (place_after w.state.part item.command place) item in
     elim after.refusal [
       | Some refusal ↦ Some (Ends (RefusedAt (verdict_of item refusal)))
       | None ↦ elim (first_full limit pieces) [
         | Some full ↦ Some full
-        | None ↦ receive_from limit (end_behind (place_after w.state.part item.command place) pieces) after.state items
+        | None ↦ receive_from limit
+            (end_behind (place_after w.state.part item.command place) pieces) after.state items
       ]
     ]
 
@@ -138,20 +167,29 @@ receive_from limit place w (item ∷ items) =
 -- own entry is there if there was room for its Mark.
 abbrev pub left_full : ℕ → ℕ → Item → (before after : State ℕ) → Store ℕ
 left_full limit place item before after = if is_some (head_of item.command)
-    then elim (first_full limit (pieces_from place (9 ∷ (1 + length (canonical 1 item.command)) ∷ []))) [ Some full ↦ completed before | None ↦ after.store ]
+    then elim (first_full limit
+    (pieces_from place (9 ∷ (1 + length (canonical 1 item.command)) ∷ []))) [
+      | Some full ↦
+          completed before
+      | None ↦ after.store
+    ]
     else after.store
 
 -- The store that is left where receiving ends.
 unfoldable pub left_from : ℕ → ℕ → Watched (State ℕ) → List Item → Store ℕ
 left_from limit place w [] = w.state.store
 left_from limit place w (item ∷ items) =
-    let after : After (Watched (State ℕ)) = watched_step (λ s i. step 0 (byte_cells i) s i.command) w item in
+    let after : After (Watched (State ℕ)) =
+    watched_step (λ s i. step 0 (byte_cells i) s i.command) w item in
     let pieces : List (ℕ × ℕ) = item_pieces (place_after w.state.part item.command place) item in
     elim after.refusal [
       | Some refusal ↦ after.state.state.store
       | None ↦ elim (first_full limit pieces) [
-        | Some full ↦ left_full limit (place_after w.state.part item.command place) item w.state after.state.state
-        | None ↦ left_from limit (end_behind (place_after w.state.part item.command place) pieces) after.state items
+        | Some full ↦
+            left_full limit
+            (place_after w.state.part item.command place) item w.state after.state.state
+        | None ↦ left_from limit
+            (end_behind (place_after w.state.part item.command place) pieces) after.state items
       ]
     ]
 
@@ -163,36 +201,47 @@ or_due (Some due) other = due
 -- is read, and last the end of reading.
 unfoldable pub receive_due : ℕ → ℕ → Store ℕ → List Guard → NamedFiles → Due
 receive_due limit gate store guards files = let read = (read_of files).limited in
-    or_due (receive_from limit gate (record { guards = guards; state = start_of store }) read.items) (Ends (stop_due read.stop))
+    or_due (receive_from limit gate (record { guards = guards; state = start_of store }) read.items)
+    (Ends (stop_due read.stop))
 
 -- The store that it leaves.
 unfoldable pub receive_left : ℕ → ℕ → Store ℕ → List Guard → NamedFiles → Store ℕ
-receive_left limit gate store guards files = left_from limit gate (record { guards = guards; state = start_of store }) (read_of files).limited.items
+receive_left limit gate store guards files =
+    left_from limit gate (record { guards = guards; state = start_of store })
+    (read_of files).limited.items
 
 -- The same by the image of the store.
 abbrev pub IsReceiveDue : List ℕ → List Guard → NamedFiles → Store ℕ → Due → Type 0
 IsReceiveDue image guards files store due = (stands : StandsFor image store)
-    × (due ≡ receive_due (limit_of stands.header) (length (front_of stands.header (map body_bytes stands.groups))) store guards files)
+    × (due ≡ receive_due (limit_of stands.header)
+    (length (front_of stands.header (map body_bytes stands.groups))) store guards files)
 
 -- What stands on standard output, and what the image stands for, after any answer of receiving: the
 -- lines of the parts that are complete, and the store that is left. Behind the groups that were
 -- there it has the first of those that receiving writes, which make that store.
-abbrev pub ReceiveSays : List ℕ → List Guard → NamedFiles → Store ℕ → (written image : List ℕ) → Type 0
+abbrev pub ReceiveSays : List ℕ → List Guard → NamedFiles → Store ℕ → (written image : List ℕ)
+    → Type 0
 ReceiveSays before guards files store written image = (stands : StandsFor before store)
-    × (let left = receive_left (limit_of stands.header) (length (front_of stands.header (map body_bytes stands.groups))) store guards files in
+    × (let left = receive_left (limit_of stands.header)
+    (length (front_of stands.header (map body_bytes stands.groups))) store guards files in
     (written ≡ lines_behind store left) × StandsFor image left)
-    × ((first : List Group) × (more : List Group) × (groups_of store guards (read_of files).reading.items ≡ first ++ more) × HasGroups stands.header (map body_bytes (stands.groups ++ first)) image)
+    × ((first : List Group) × (more : List Group)
+    × (groups_of store guards (read_of files).reading.items ≡ first ++ more)
+    × HasGroups stands.header (map body_bytes (stands.groups ++ first)) image)
 
 -- ---- drop
 
 -- No entry has the name, or there is no room for the group.
 unfoldable pub drop_due : ℕ → ℕ → List ℕ → Store ℕ → Due
 drop_due limit gate name store =
-    if has_name name store then or_due (first_full limit (pieces_from gate (9 ∷ (1 + length name) ∷ []))) (Ends DoneWhole) else Missing name
+    if has_name name store then or_due
+    (first_full limit (pieces_from gate (9 ∷ (1 + length name) ∷ [])))
+    (Ends DoneWhole) else Missing name
 
 abbrev pub IsDropDue : List ℕ → List ℕ → Store ℕ → Due → Type 0
 IsDropDue image name store due = (stands : StandsFor image store)
-    × (due ≡ drop_due (limit_of stands.header) (length (front_of stands.header (map body_bytes stands.groups))) name store)
+    × (due ≡ drop_due (limit_of stands.header)
+    (length (front_of stands.header (map body_bytes stands.groups))) name store)
 
 -- ---- words that do not open it
 
@@ -202,9 +251,13 @@ init_due image = if length image == 0 then Ends DoneWhole else StoreThere (lengt
 
 -- Scrub finds the groups whole, or one at fault.
 abbrev pub IsScrubDue : List ℕ → Due → List ℕ → Type 0
-IsScrubDue image (Ends due) written = (due ≡ DoneWhole) × ((groups : ℕ) × (plain : ℕ) × IsScrubbed image groups plain × (written ≡ scrub_line groups plain))
+IsScrubDue image (Ends due) written =
+    (due ≡ DoneWhole)
+    × ((groups : ℕ) × (plain : ℕ) × IsScrubbed image groups plain
+    × (written ≡ scrub_line groups plain))
 IsScrubDue image (NotStore group) written = IsNoStoreAt image group × (written ≡ [])
-IsScrubDue image (Damaged group stored computed) written = IsDamagedAt image group stored computed × (written ≡ [])
+IsScrubDue image (Damaged group stored computed) written =
+    IsDamagedAt image group stored computed × (written ≡ [])
 IsScrubDue image (Missing what) written = ⊥
 IsScrubDue image (LogFull end wanted limit) written = ⊥
 IsScrubDue image (StoreThere size) written = ⊥

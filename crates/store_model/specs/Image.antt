@@ -100,7 +100,8 @@ HasFault image (suc groups) = IsTorn image groups
 -- A new store: 736e6473746f7265 02000000 0000000000010000 00.
 new_store : List ℕ
 new_store =
-    0x73 ∷ 0x6e ∷ 0x64 ∷ 0x73 ∷ 0x74 ∷ 0x6f ∷ 0x72 ∷ 0x65 ∷ 0x02 ∷ 0 ∷ 0 ∷ 0 ∷ 0 ∷ 0 ∷ 0 ∷ 0 ∷ 0 ∷ 0x01 ∷ 0 ∷ 0 ∷ 0 ∷ []
+    0x73 ∷ 0x6e ∷ 0x64 ∷ 0x73 ∷ 0x74 ∷ 0x6f ∷ 0x72 ∷ 0x65 ∷ 0x02 ∷ 0 ∷ 0 ∷ 0 ∷ 0 ∷ 0 ∷ 0 ∷ 0 ∷ 0
+    ∷ 0x01 ∷ 0 ∷ 0 ∷ 0 ∷ []
 
 example_new : header_of usual_header ++ 0 ∷ [] ≡ new_store
 unfolding new_store
@@ -129,7 +130,8 @@ example_limit = refl
 
 -- a group of two bytes without a checksum, published, and then a closed gate
 example_group : front_of (record { format = 1; number = 2 ^ 40 }) ((7 ∷ 8 ∷ []) ∷ []) ++ 0 ∷ []
-    ≡ header_of (record { format = 1; number = 2 ^ 40 }) ++ 1 ∷ 2 ∷ 0 ∷ 0 ∷ 0 ∷ 0 ∷ 0 ∷ 0 ∷ 0 ∷ 7 ∷ 8 ∷ 0 ∷ []
+    ≡ header_of (record { format = 1; number = 2 ^ 40 })
+    ++ 1 ∷ 2 ∷ 0 ∷ 0 ∷ 0 ∷ 0 ∷ 0 ∷ 0 ∷ 0 ∷ 7 ∷ 8 ∷ 0 ∷ []
 example_group = refl
 
 -- the nine digits, of which the checksum with no inversion is 58e3fa20, as a new group
@@ -152,4 +154,12 @@ example_reserve = refl
 
 -- a gate that is neither open nor 0 is closed too
 example_other_gate : HasGroups usual_header [] (header_of usual_header ++ 7 ∷ [])
-example_other_gate = record { gate = 7; rest = []; closed = λ e. cc; bytes = refl; lawful = record { format = inr refl; number_fits = lit< tt }; lengths_fit = tt }
+example_other_gate =
+    record {
+      gate = 7;
+      rest = [];
+      closed = λ e. cc;
+      bytes = refl;
+      lawful = record { format = inr refl; number_fits = lit< tt };
+      lengths_fit = tt;
+    }

@@ -105,7 +105,8 @@ base_over (Trial count seed) read s = s
 
 -- What is due to them, where a store is read, and where none is.
 abbrev pub IsStreamsDue : Bool → streams.Request → List ℕ → Sources → Due → Type 0
-IsStreamsDue true request image read due = OverStore image (λ s d. d ≡ Ends (due_of request (base_over request read s) read)) due
+IsStreamsDue true request image read due =
+    OverStore image (λ s d. d ≡ Ends (due_of request (base_over request read s) read)) due
 IsStreamsDue false request image read due = due ≡ Ends (due_of request [] read)
 
 -- What is written then. There is no other answer than one that files decide, where there is a
@@ -122,13 +123,18 @@ StreamsWrite request base read (Damaged group stored computed) written = ⊥
 
 -- What is due, over the image at entry.
 abbrev pub IsDue : Request → List (List ℕ) → List ℕ → NamedFiles → Due → Type 0
-IsDue (OfStreams request) words image files due = IsStreamsDue (reads_store words (store_of request)) request image (read_of files) due
+IsDue (OfStreams request) words image files due =
+    IsStreamsDue (reads_store words (store_of request)) request image (read_of files) due
 IsDue (InitStore store) words image files due = due ≡ init_due image
-IsDue (DropEntry store name) words image files due = OverStore image (IsDropDue image (word_at words name)) due
-IsDue (ReceiveFiles guards store at) words image files due = OverStore image (IsReceiveDue image (new_guards guards) files) due
+IsDue (DropEntry store name) words image files due =
+    OverStore image (IsDropDue image (word_at words name)) due
+IsDue (ReceiveFiles guards store at) words image files due =
+    OverStore image (IsReceiveDue image (new_guards guards) files) due
 IsDue (ListStore store) words image files due = OverStore image (λ s d. d ≡ list_due s) due
-IsDue (ShowEntry store name) words image files due = OverStore image (λ s d. d ≡ show_due (word_at words name) s) due
-IsDue (CatFile store name path) words image files due = OverStore image (λ s d. d ≡ cat_due (word_at words name) (word_at words path) s) due
+IsDue (ShowEntry store name) words image files due =
+    OverStore image (λ s d. d ≡ show_due (word_at words name) s) due
+IsDue (CatFile store name path) words image files due =
+    OverStore image (λ s d. d ≡ cat_due (word_at words name) (word_at words path) s) due
 IsDue (ScrubStore store) words image files due = (written : List ℕ) × IsScrubDue image due written
 
 -- What a word that reads writes where all was done, and nothing where something is missing or there
@@ -152,7 +158,8 @@ InitLeaves (Damaged group stored computed) image left = left ≡ image
 
 -- The image stands for the store without the entry, or for the store as it was.
 abbrev pub DropLeaves : Due → List ℕ → Store ℕ → List ℕ → Type 0
-DropLeaves (Ends due) name store left = (next : Store ℕ) × (dropped store name ≡ Some next) × StandsFor left next
+DropLeaves (Ends due) name store left =
+    (next : Store ℕ) × (dropped store name ≡ Some next) × StandsFor left next
 DropLeaves (NotStore group) name store left = ⊥
 DropLeaves (Missing what) name store left = StandsFor left store
 DropLeaves (LogFull end wanted limit) name store left = StandsFor left store
@@ -161,12 +168,16 @@ DropLeaves (Damaged group stored computed) name store left = ⊥
 
 -- What holds where an image stands for a store, and what holds where it stands for none.
 abbrev pub ByImage : List ℕ → (Store ℕ → Type 0) → Type 0 → Type 0
-ByImage image P none = ((store : Store ℕ) → StandsFor image store → P store) × ((group : ℕ) → StandsForNone image group → none)
+ByImage image P none =
+    ((store : Store ℕ) → StandsFor image store → P store)
+    × ((group : ℕ) → StandsForNone image group → none)
 
 -- Words on streams write what they say, and nothing where the image that is read stands for no
 -- store.
 abbrev pub StreamsSay : Bool → streams.Request → List ℕ → Sources → Due → List ℕ → Type 0
-StreamsSay true request image read due written = ByImage image (λ s. StreamsWrite request (base_over request read s) read due written) (written ≡ [])
+StreamsSay true request image read due written =
+    ByImage image (λ s. StreamsWrite request (base_over request read s) read due written)
+    (written ≡ [])
 StreamsSay false request image read due written = StreamsWrite request [] read due written
 
 -- What a request meets when it begins: its words, the image of the store, and the files that it
@@ -182,46 +193,66 @@ at_entry words image files = record { words = words; image = image; files = file
 -- What was written, and what the image is or stands for afterwards. Where it stands for no store,
 -- nothing is written or changed.
 abbrev pub Says : Request → AtEntry → Due → (written left : List ℕ) → Type 0
-Says (OfStreams request) met due written left = (left ≡ met.image) × StreamsSay (reads_store met.words (store_of request)) request met.image (read_of met.files) due written
+Says (OfStreams request) met due written left =
+    (left ≡ met.image)
+    × StreamsSay (reads_store met.words (store_of request)) request met.image
+    (read_of met.files) due written
 Says (InitStore store) met due written left = (written ≡ []) × InitLeaves due met.image left
 Says (DropEntry store name) met due written left =
-    (written ≡ []) × ByImage met.image (λ s. DropLeaves due (word_at met.words name) s left) (left ≡ met.image)
+    (written ≡ [])
+    × ByImage met.image (λ s. DropLeaves due (word_at met.words name) s left) (left ≡ met.image)
 Says (ReceiveFiles guards store at) met due written left =
-    ByImage met.image (λ s. ReceiveSays met.image (new_guards guards) met.files s written left) ((written ≡ []) × (left ≡ met.image))
-Says (ListStore store) met due written left = (left ≡ met.image) × ByImage met.image (λ s. Printed due (listed s) written) (written ≡ [])
+    ByImage met.image (λ s. ReceiveSays met.image (new_guards guards) met.files s written left)
+    ((written ≡ []) × (left ≡ met.image))
+Says (ListStore store) met due written left =
+    (left ≡ met.image) × ByImage met.image (λ s. Printed due (listed s) written) (written ≡ [])
 Says (ShowEntry store name) met due written left =
-    (left ≡ met.image) × ByImage met.image (λ s. Printed due (show_output (word_at met.words name) s) written) (written ≡ [])
+    (left ≡ met.image)
+    × ByImage met.image (λ s. Printed due (show_output (word_at met.words name) s) written)
+    (written ≡ [])
 Says (CatFile store name path) met due written left =
-    (left ≡ met.image) × ByImage met.image (λ s. Printed due (cat_output (word_at met.words name) (word_at met.words path) s) written) (written ≡ [])
+    (left ≡ met.image)
+    × ByImage met.image
+    (λ s. Printed due (cat_output (word_at met.words name) (word_at met.words path) s) written)
+    (written ≡ [])
 Says (ScrubStore store) met due written left = (left ≡ met.image) × IsScrubDue met.image due written
 
 -- ---- laws
 
 -- One answer is due.
 abbrev pub OneDue : Type 0
-OneDue = (request : Request) (words : List (List ℕ)) (image : List ℕ) (files : NamedFiles) (due other : Due) → IsBytes image
+OneDue = (request : Request) (words : List (List ℕ)) (image : List ℕ) (files : NamedFiles)
+    (due other : Due) → IsBytes image
     → IsDue request words image files due → IsDue request words image files other → due ≡ other
 
 -- What is due to receiving is what is due to an audit over the same store, unless there is no room.
 abbrev pub ReceiveIsAudit : Type 0
 ReceiveIsAudit = (limit gate : ℕ) (store : Store ℕ) (guards : List Guard) (files : NamedFiles)
-    → (receive_due limit gate store guards files ≡ Ends (audit_due_of store guards (read_of files).limited))
-    ⊎ ((end : ℕ) × (wanted : ℕ) × (receive_due limit gate store guards files ≡ LogFull end wanted limit) × (limit < end + wanted + reserve))
+    → (receive_due limit gate store guards files
+    ≡ Ends (audit_due_of store guards (read_of files).limited))
+    ⊎ ((end : ℕ) × (wanted : ℕ)
+    × (receive_due limit gate store guards files ≡ LogFull end wanted limit)
+    × (limit < end + wanted + reserve))
 
 -- The store that is left is one that receiving passes through, with all parts complete that are
 -- complete in it.
 abbrev pub LeftIsPassed : Type 0
 LeftIsPassed = (limit gate : ℕ) (store : Store ℕ) (guards : List Guard) (files : NamedFiles)
     → let left = receive_left limit gate store guards files in
-    IsBetween (complete_behind store left) store (received 0 byte_cells store guards (read_of files).limited.items).state.state.store left
+    IsBetween (complete_behind store left) store
+    (received 0 byte_cells store guards (read_of files).limited.items).state.state.store left
 
 -- So it is of files of bytes, with names that an attribute has room for.
 abbrev pub LeftIsState : Type 0
-LeftIsState = (limit gate : ℕ) (store : Store ℕ) (guards : List Guard) (files : NamedFiles) → AreGiven files
-    → let left = receive_left limit gate store guards files in IsStateOf (complete_behind store left) store guards files left
+LeftIsState =
+    (limit gate : ℕ) (store : Store ℕ) (guards : List Guard) (files : NamedFiles) → AreGiven files
+    → let left = receive_left limit gate store guards files in
+    IsStateOf (complete_behind store left) store guards files left
 
 -- Where there was room, it is what receiving leaves.
 abbrev pub LeftIsReceived : Type 0
-LeftIsReceived = (limit gate : ℕ) (store : Store ℕ) (guards : List Guard) (files : NamedFiles) (due : dues.Due)
+LeftIsReceived =
+    (limit gate : ℕ) (store : Store ℕ) (guards : List Guard) (files : NamedFiles) (due : dues.Due)
     → receive_due limit gate store guards files ≡ Ends due
-    → receive_left limit gate store guards files ≡ (received 0 byte_cells store guards (read_of files).limited.items).state.state.store
+    → receive_left limit gate store guards files
+    ≡ (received 0 byte_cells store guards (read_of files).limited.items).state.state.store

@@ -16,7 +16,8 @@ abbrev pub body_with : ℕ → List ℕ → List ℕ
 body_with kind rest = if nat_lt 3 kind then sealed (kind ∷ rest) else kind ∷ rest
 
 abbrev pub IsWhole : ℕ → List ℕ → Type 0
-IsWhole format body = (kind : ℕ) × (rest : List ℕ) × IsKind format kind × (body ≡ body_with kind rest)
+IsWhole format body =
+    (kind : ℕ) × (rest : List ℕ) × IsKind format kind × (body ≡ body_with kind rest)
 
 -- How many of some bodies have no checksum.
 abbrev pub unsealed : List (List ℕ) → ℕ
@@ -72,11 +73,13 @@ pub record HasBody (fault : List ℕ → Type 0) (rest : List ℕ) : Type 0 wher
 -- 0.
 abbrev pub IsDamagedAt : List ℕ → ℕ → ℕ → ℕ → Type 0
 IsDamagedAt image zero stored computed = ⊥
-IsDamagedAt image (suc count) stored computed = FailsWith (λ format rest. HasBody (λ body. IsDamaged body stored computed) rest) image count
+IsDamagedAt image (suc count) stored computed =
+    FailsWith (λ format rest. HasBody (λ body. IsDamaged body stored computed) rest) image count
 
 abbrev pub IsNoStoreAt : List ℕ → ℕ → Type 0
 IsNoStoreAt image zero = HasHeader image → ⊥
-IsNoStoreAt image (suc count) = FailsWith (λ format rest. IsCutShort rest ⊎ HasBody (IsNone format) rest) image count
+IsNoStoreAt image (suc count) =
+    FailsWith (λ format rest. IsCutShort rest ⊎ HasBody (IsNone format) rest) image count
 
 -- What is printed where there is none.
 unfoldable pub scrub_line : ℕ → ℕ → List ℕ

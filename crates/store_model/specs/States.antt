@@ -41,14 +41,17 @@ complete_behind start store = length (filter is_complete (drop (length start) st
 -- ---- receiving
 
 -- What items leave of a store and guards, each WRITE putting the cells of its item.
-unfoldable pub received : {C : Type 0} → C → (Item → List C) → Store C → List Guard → List Item → Ran (Watched (State C))
+unfoldable pub received : {C : Type 0} → C → (Item → List C) → Store C → List Guard → List Item
+    → Ran (Watched (State C))
 received zero_cell cells store guards items =
-    run_by (watched_step (λ s item. step zero_cell (cells item) s item.command)) (record { guards = guards; state = start_of store }) items
+    run_by (watched_step (λ s item. step zero_cell (cells item) s item.command))
+    (record { guards = guards; state = start_of store }) items
 
 -- The store that receiving files leaves, each part under the name that is given for it, whether or
 -- not they are accepted.
 abbrev pub left_by : Store ℕ → List Guard → NamedFiles → Store ℕ
-left_by store guards files = (receive_watched 0 byte_cells store guards (read_of files).reading).state.state.store
+left_by store guards files =
+    (receive_watched 0 byte_cells store guards (read_of files).reading).state.state.store
 
 -- A store that receiving files passes through, with at least so many parts complete.
 abbrev pub IsStateOf : ℕ → Store ℕ → List Guard → NamedFiles → Store ℕ → Type 0
@@ -58,7 +61,9 @@ IsStateOf least store guards files now = IsBetween least store (left_by store gu
 
 -- What is printed once a part is complete.
 unfoldable pub complete_line : {S : Type 0} → Entry S → List ℕ
-complete_line e = line (codes "complete" ++ and_field (escaped e.name) ++ and_field (uuid_text e.key.uuid) ++ and_number e.key.ctransid)
+complete_line e =
+    line (codes "complete" ++ and_field (escaped e.name) ++ and_field (uuid_text e.key.uuid)
+    ++ and_number e.key.ctransid)
 
 -- Each ctransid is a number of eight bytes, as the format has it.
 abbrev pub HasNumbers : {S : Type 0} → List (Entry S) → Type 0

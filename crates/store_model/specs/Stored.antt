@@ -42,7 +42,8 @@ content_bytes (Drop name) = name
 
 -- The body of a group.
 abbrev pub body_bytes : Group → List ℕ
-body_bytes group = let bytes : List ℕ = number_of group.is_sealed group.content ∷ content_bytes group.content in
+body_bytes group = let bytes : List ℕ =
+    number_of group.is_sealed group.content ∷ content_bytes group.content in
     if group.is_sealed then sealed bytes else bytes
 
 -- A command that changes a part: neither a head nor END.
@@ -56,7 +57,8 @@ IsEdit version command = (is_edit command ≡ true) × IsSpellable version comma
 -- spelled in version 1.
 abbrev pub IsContent : Content → Type 0
 IsContent (Mark head) = IsSpellable 1 head
-IsContent (Body uuid version commands) = (length uuid ≡ 16) × (is_version version ≡ true) × AllByRecursion (IsEdit version) commands
+IsContent (Body uuid version commands) =
+    (length uuid ≡ 16) × (is_version version ≡ true) × AllByRecursion (IsEdit version) commands
 IsContent (Drop name) = Unit {0}
 
 -- A group of an image of a format. Groups without a checksum stand in images of format 1 alone.
@@ -107,7 +109,8 @@ unfinished_at uuid (e ∷ store) = if is_unfinished uuid e then Some e else unfi
 abbrev pub started : {C : Type 0} → Store C → Entry (Subvolume C) → Option (State C)
 started store e = elim (start_from store e.parent) [
   | Err refusal ↦ None
-  | Ok start ↦ Some (record { store = store; part = Some (record { key = e.key; subvolume = start }) })
+  | Ok start ↦ Some
+      (record { store = store; part = Some (record { key = e.key; subvolume = start }) })
 ]
 
 unfoldable pub resumed : {C : Type 0} → Store C → List ℕ → Option (State C)
@@ -115,17 +118,21 @@ resumed store uuid = elim (unfinished_at uuid store) [ None ↦ None | Some e �
 
 -- The edits of a part one after the other, the first of whose frames stands at a place; none where
 -- one of them is refused.
-unfoldable pub edits_made : {C : Type 0} → C → Putting C → ℕ → ℕ → State C → List Command → Option (State C)
+unfoldable pub edits_made : {C : Type 0} → C → Putting C → ℕ → ℕ → State C → List Command
+    → Option (State C)
 edits_made zero_cell put version place state [] = Some state
 edits_made zero_cell put version place state (c ∷ commands) =
-    elim (taken (step_edit zero_cell (put (data_place version place (attributes_of c)) (bytes_of c)) state c)) [
+    elim (taken (step_edit zero_cell
+    (put (data_place version place (attributes_of c)) (bytes_of c)) state c)) [
       | None ↦ None
-      | Some next ↦ edits_made zero_cell put version (place + length (canonical version c)) next commands
+      | Some next ↦
+          edits_made zero_cell put version (place + length (canonical version c)) next commands
     ]
 
 -- A store without the entry of a name, finished or not.
 unfoldable pub dropped : {S : Type 0} → List (Entry S) → List ℕ → Option (List (Entry S))
-dropped store name = if has_name name store then Some (filter (λ e. not (bytes_eq e.name name)) store) else None
+dropped store name =
+    if has_name name store then Some (filter (λ e. not (bytes_eq e.name name)) store) else None
 
 -- The frames of a Body begin behind its number, its uuid and its version.
 abbrev pub frames_at : ℕ → ℕ
@@ -136,7 +143,8 @@ unfoldable pub made : {C : Type 0} → C → Putting C → ℕ → Store C → C
 made zero_cell put place store (Mark head) = marked store head
 made zero_cell put place store (Body uuid version commands) = elim (resumed store uuid) [
   | None ↦ None
-  | Some state ↦ option_map completed (edits_made zero_cell put version (frames_at place) state commands)
+  | Some state ↦
+      option_map completed (edits_made zero_cell put version (frames_at place) state commands)
 ]
 made zero_cell put place store (Drop name) = dropped store name
 
@@ -147,10 +155,11 @@ body_at gate = gate + 9
 -- Groups one after the other, the gate of the first of which stands at a place.
 unfoldable pub made_all : {C : Type 0} → C → Putting C → ℕ → Store C → List Group → Option (Store C)
 made_all zero_cell put gate store [] = Some store
-made_all zero_cell put gate store (group ∷ groups) = elim (made zero_cell put (body_at gate) store group.content) [
-  | None ↦ None
-  | Some next ↦ made_all zero_cell put (body_at gate + length (body_bytes group)) next groups
-]
+made_all zero_cell put gate store (group ∷ groups) =
+    elim (made zero_cell put (body_at gate) store group.content) [
+      | None ↦ None
+      | Some next ↦ made_all zero_cell put (body_at gate + length (body_bytes group)) next groups
+    ]
 
 -- ---- what an image stands for
 
@@ -159,12 +168,14 @@ abbrev pub first_gate : ℕ
 first_gate = 20
 
 -- Groups of an image of a format that make a store, starting from no entries.
-pub record Makes {C : Type 0} (zero_cell : C) (put : Putting C) (format : ℕ) (groups : List Group) (store : Store C) : Type 0 where
+pub record Makes {C : Type 0} (zero_cell : C) (put : Putting C) (format : ℕ) (groups : List Group)
+    (store : Store C) : Type 0 where
   pub lawful : AllByRecursion (IsGroup format) groups
   pub made : made_all zero_cell put first_gate [] groups ≡ Some store
 
 -- An image stands for a store over any type of cell where its groups make this store.
-pub record Stands {C : Type 0} (zero_cell : C) (put : Putting C) (image : List ℕ) (store : Store C) : Type 0 where
+pub record Stands {C : Type 0} (zero_cell : C) (put : Putting C) (image : List ℕ)
+    (store : Store C) : Type 0 where
   pub header : Header
   pub groups : List Group
   pub has : HasGroups header (map body_bytes groups) image
@@ -195,7 +206,8 @@ pub record FailsBehind (image : List ℕ) (count : ℕ) : Type 0 where
   pub makes : Makes 0 as_bytes header.format groups store
   pub rest : List ℕ
   pub bytes : image ≡ front_of header (map body_bytes groups) ++ rest
-  pub fault : IsCutShort rest ⊎ IsBadGroup header.format (length (front_of header (map body_bytes groups))) store rest
+  pub fault : IsCutShort rest
+      ⊎ IsBadGroup header.format (length (front_of header (map body_bytes groups))) store rest
 
 -- An image stands for no store, and the first fault is that of this group; the header counts as
 -- group 0, and groups are numbered from 1.

@@ -21,7 +21,8 @@ pub record InTurns : Type 0 where
   pub shares : List ℕ
 
 abbrev pub in_turns : List ℕ → List (List ℕ) → List Guard → List ℕ → InTurns
-in_turns schedule files guards shares = record { schedule = schedule; files = files; guards = guards; shares = shares }
+in_turns schedule files guards shares =
+    record { schedule = schedule; files = files; guards = guards; shares = shares }
 
 -- ---- how far files are read
 
@@ -58,7 +59,12 @@ is_long None = false
 is_long (Some long) = long
 
 abbrev pub at_limit : {C : Type 0} → List Bool → Turns C → ℕ → Bool
-at_limit long w n = elim (slice_get w.sessions n) [ None ↦ false | Some s ↦ is_long (slice_get long n) && (not s.is_over && is_empty s.items) ]
+at_limit long w n =
+    elim (slice_get w.sessions n) [
+      | None ↦ false
+      | Some s ↦
+          is_long (slice_get long n) && (not s.is_over && is_empty s.items)
+    ]
 
 -- ---- room
 
@@ -66,7 +72,8 @@ at_limit long w n = elim (slice_get w.sessions n) [ None ↦ false | Some s ↦ 
 -- length, and then a head, or what stands in front of edits and their frames.
 abbrev pub event_lens : Event → List ℕ
 event_lens (Begins head) = 9 ∷ (1 + length (canonical 1 head.command)) ∷ []
-event_lens (Completes part) = 9 ∷ 18 ∷ map (λ item. length (canonical part.head.version item.command)) part.edits
+event_lens (Completes part) =
+    9 ∷ 18 ∷ map (λ item. length (canonical part.head.version item.command)) part.edits
 
 abbrev pub event_pieces : ℕ → Event → List (ℕ × ℕ)
 event_pieces gate event = pieces_from gate (event_lens event)
@@ -88,7 +95,9 @@ unfoldable pub fitting : ℕ → ℕ → List Event → Fitting
 fitting most gate [] = record { events = []; full = None }
 fitting most gate (event ∷ events) = elim (first_full most (event_pieces gate event)) [
   | Some full ↦ record { events = []; full = Some full }
-  | None ↦ let rest : Fitting = fitting most (gate_behind gate event) events in record { events = event ∷ rest.events; full = rest.full }
+  | None ↦ let rest : Fitting =
+      fitting most (gate_behind gate event) events in
+      record { events = event ∷ rest.events; full = rest.full }
 ]
 
 -- ---- the end of all turns
@@ -100,7 +109,12 @@ pub record TurnsEnd : Type 0 where
 
 -- The events of one turn.
 abbrev pub turn_events : {C : Type 0} → C → (Item → List C) → Turns C → ℕ → List Event
-turn_events zero_cell cells w n = elim (slice_get w.sessions n) [ None ↦ [] | Some s ↦ (session_turn zero_cell cells w.store s).events ]
+turn_events zero_cell cells w n =
+    elim (slice_get w.sessions n) [
+      | None ↦ []
+      | Some s ↦
+          (session_turn zero_cell cells w.store s).events
+    ]
 
 -- The room in the log of a store: the greatest size that it may have, and where its next gate
 -- stands.
@@ -113,13 +127,18 @@ room_of most gate = record { most = most; gate = gate }
 
 -- Turns in order: the first one that comes to the limit of a file, or has no room, ends all of
 -- them. Else the answer is the verdict on the session that was refused first, if one was.
-unfoldable pub turns_end : {C : Type 0} → C → (Item → List C) → Room → List Bool → Turns C → List ℕ → TurnsEnd
-turns_end zero_cell cells room long w [] = record { due = Ends (refused_due w.refused); events = w.events }
+unfoldable pub turns_end : {C : Type 0} → C → (Item → List C) → Room → List Bool → Turns C → List ℕ
+    → TurnsEnd
+turns_end zero_cell cells room long w [] =
+    record { due = Ends (refused_due w.refused); events = w.events }
 turns_end zero_cell cells room long w (n ∷ turns) =
     if at_limit long w n then record { due = Ends (TooLong (n + 1)); events = w.events }
-    else (let new : List Event = turn_events zero_cell cells w n in elim (fitting room.most room.gate new).full [
-      | Some full ↦ record { due = full; events = w.events ++ (fitting room.most room.gate new).events }
-      | None ↦ turns_end zero_cell cells (room_of room.most (gate_after room.gate new)) long (one_turn zero_cell cells w n) turns
+    else (let new : List Event = turn_events zero_cell cells w n in
+    elim (fitting room.most room.gate new).full [
+      | Some full ↦
+          record { due = full; events = w.events ++ (fitting room.most room.gate new).events }
+      | None ↦ turns_end zero_cell cells (room_of room.most (gate_after room.gate new)) long
+          (one_turn zero_cell cells w n) turns
     ])
 
 -- All turns: the schedule, and then each session to its end.
@@ -128,5 +147,7 @@ all_turns schedule sessions = schedule ++ to_the_end 0 sessions
 
 -- Files that take turns into a store with this room, whose gate is closed.
 unfoldable pub interleave_end : Room → Store ℕ → InTurns → TurnsEnd
-interleave_end room store turns = let sessions : List (Session ℕ) = sessions_of turns.files turns.guards turns.shares in
-    turns_end 0 byte_cells room (which_long 1 turns.files) (at_entry store sessions) (all_turns turns.schedule sessions)
+interleave_end room store turns = let sessions : List (Session ℕ) =
+    sessions_of turns.files turns.guards turns.shares in
+    turns_end 0 byte_cells room (which_long 1 turns.files) (at_entry store sessions)
+    (all_turns turns.schedule sessions)

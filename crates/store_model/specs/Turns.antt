@@ -60,21 +60,29 @@ part_of part = option_map (λ r. r.part) part
 -- behind those before it.
 abbrev pub taken_after : {C : Type 0} → Item → Option (Receiving C) → Taken
 taken_after item None = record { head = item; edits = [] }
-taken_after item (Some r) = if is_some (head_of item.command) then record { head = item; edits = [] } else record { head = r.taken.head; edits = r.taken.edits ++ item ∷ [] }
+taken_after item (Some r) =
+    if is_some
+    (head_of item.command) then record {
+      head = item;
+      edits = [];
+    } else record { head = r.taken.head; edits = r.taken.edits ++ item ∷ [] }
 
 -- The current part after an item, if there is one.
-abbrev pub receiving_after : {C : Type 0} → Item → Option (Receiving C) → Option (Part C) → Option (Receiving C)
+abbrev pub receiving_after : {C : Type 0} → Item → Option (Receiving C) → Option (Part C)
+    → Option (Receiving C)
 receiving_after item old None = None
 receiving_after item old (Some part) = Some (record { taken = taken_after item old; part = part })
 
 -- A head and END complete the part before them, if there is one.
 abbrev pub completions : {C : Type 0} → Command → Option (Receiving C) → List Event
 completions command None = []
-completions command (Some r) = if is_some (head_of command) || is_end command then Completes r.taken ∷ [] else []
+completions command (Some r) =
+    if is_some (head_of command) || is_end command then Completes r.taken ∷ [] else []
 
 -- A head that is not refused begins a part.
 abbrev pub beginnings : Item → Option Refusal → List Event
-beginnings item refusal = if is_some (head_of item.command) && is_none refusal then Begins item ∷ [] else []
+beginnings item refusal =
+    if is_some (head_of item.command) && is_none refusal then Begins item ∷ [] else []
 
 -- After a step: a session that is refused is over, and its part stays as it is.
 abbrev pub turned : {C : Type 0} → Session C → Item → List Item → Stepped C → Turn C
@@ -94,7 +102,13 @@ turned s item items after = record {
 -- A turn reads the next item. At the end of what is read the session is over, with the fault if
 -- there is one; an item that a guard refuses changes nothing; else it does its step.
 abbrev pub next_turn : {C : Type 0} → C → (Item → List C) → Store C → Session C → List Item → Turn C
-next_turn zero_cell cells store s [] = record { store = store; session = record s { is_over = true }; refused = fault_of s.end; events = [] }
+next_turn zero_cell cells store s [] =
+    record {
+      store = store;
+      session = record s { is_over = true };
+      refused = fault_of s.end;
+      events = [];
+    }
 next_turn zero_cell cells store s (item ∷ items) = elim (guarded s.guards item.command) [
   | Some refusal ↦ record {
     store = store;
@@ -102,12 +116,19 @@ next_turn zero_cell cells store s (item ∷ items) = elim (guarded s.guards item
     refused = Some (verdict_of item refusal);
     events = [];
   }
-  | None ↦ turned s item items (step zero_cell (cells item) (record { store = store; part = part_of s.part }) item.command)
+  | None ↦ turned s item items
+      (step zero_cell (cells item) (record { store = store; part = part_of s.part }) item.command)
 ]
 
 -- A session that is over does nothing.
 unfoldable pub session_turn : {C : Type 0} → C → (Item → List C) → Store C → Session C → Turn C
-session_turn zero_cell cells store s = if s.is_over then record { store = store; session = s; refused = None; events = [] } else next_turn zero_cell cells store s s.items
+session_turn zero_cell cells store s =
+    if s.is_over then record {
+      store = store;
+      session = s;
+      refused = None;
+      events = [];
+    } else next_turn zero_cell cells store s s.items
 
 -- ---- turns of all sessions
 
@@ -126,20 +147,39 @@ with_at zero a (x ∷ xs) = a ∷ xs
 with_at (suc n) a (x ∷ xs) = x ∷ with_at n a xs
 
 abbrev pub after_turn : {C : Type 0} → Turns C → ℕ → Turn C → Turns C
-after_turn w n t = record { store = t.store; sessions = with_at n t.session w.sessions; refused = first_of w.refused t.refused; events = w.events ++ t.events }
+after_turn w n t =
+    record {
+      store = t.store;
+      sessions = with_at n t.session w.sessions;
+      refused = first_of w.refused t.refused;
+      events = w.events ++ t.events;
+    }
 
 -- A turn of the session of a number, counted from 0.
 unfoldable pub one_turn : {C : Type 0} → C → (Item → List C) → Turns C → ℕ → Turns C
-one_turn zero_cell cells w n = elim (slice_get w.sessions n) [ None ↦ w | Some s ↦ after_turn w n (session_turn zero_cell cells w.store s) ]
+one_turn zero_cell cells w n =
+    elim (slice_get w.sessions n) [
+      | None ↦ w
+      | Some s ↦
+          after_turn w n (session_turn zero_cell cells w.store s)
+    ]
 
 -- Any number of turns.
 unfoldable pub after_turns : {C : Type 0} → C → (Item → List C) → Turns C → List ℕ → Turns C
 after_turns zero_cell cells w [] = w
-after_turns zero_cell cells w (n ∷ ns) = after_turns zero_cell cells (one_turn zero_cell cells w n) ns
+after_turns zero_cell cells w (n ∷ ns) =
+    after_turns zero_cell cells (one_turn zero_cell cells w n) ns
 
 -- Before the first turn: no session has a part.
 abbrev pub new_session : {C : Type 0} → Reading → List Guard → Session C
-new_session reading guards = record { items = reading.items; end = reading.end; guards = guards; part = None; is_over = false }
+new_session reading guards =
+    record {
+      items = reading.items;
+      end = reading.end;
+      guards = guards;
+      part = None;
+      is_over = false;
+    }
 
 abbrev pub at_entry : {C : Type 0} → Store C → List (Session C) → Turns C
 at_entry store sessions = record { store = store; sessions = sessions; refused = None; events = [] }
@@ -151,36 +191,51 @@ to_the_end n [] = []
 to_the_end n (s ∷ sessions) = replicate (suc (length s.items)) n ++ to_the_end (n + 1) sessions
 
 -- The schedule, and then each session to its end.
-unfoldable pub interleaved : {C : Type 0} → C → (Item → List C) → Store C → List ℕ → List (Session C) → Turns C
-interleaved zero_cell cells store schedule sessions = after_turns zero_cell cells (at_entry store sessions) (schedule ++ to_the_end 0 sessions)
+unfoldable pub interleaved : {C : Type 0} → C → (Item → List C) → Store C → List ℕ
+    → List (Session C) → Turns C
+interleaved zero_cell cells store schedule sessions =
+    after_turns zero_cell cells (at_entry store sessions) (schedule ++ to_the_end 0 sessions)
 
 -- The sessions of files, the first of which has the given number; each has as many of the guards as
 -- its share says, in their order.
 unfoldable pub sessions_from : ℕ → List (List ℕ) → List Guard → List ℕ → List (Session ℕ)
 sessions_from n [] guards shares = []
-sessions_from n (file ∷ files) guards [] = new_session (reads n file) [] ∷ sessions_from (n + 1) files guards []
-sessions_from n (file ∷ files) guards (share ∷ shares) = new_session (reads n file) (take share guards) ∷ sessions_from (n + 1) files (drop share guards) shares
+sessions_from n (file ∷ files) guards [] =
+    new_session (reads n file) [] ∷ sessions_from (n + 1) files guards []
+sessions_from n (file ∷ files) guards (share ∷ shares) =
+    new_session (reads n file) (take share guards)
+    ∷ sessions_from (n + 1) files (drop share guards) shares
 
 -- Receiving files that take turns into a store of bytes.
 unfoldable pub turns_of : Store ℕ → List ℕ → List (List ℕ) → List Guard → List ℕ → Turns ℕ
-turns_of store schedule files guards shares = interleaved 0 byte_cells store schedule (sessions_from 1 files guards shares)
+turns_of store schedule files guards shares =
+    interleaved 0 byte_cells store schedule (sessions_from 1 files guards shares)
 
 -- One or more decimal digits, each below the number of files, say whose turn it is.
 abbrev pub is_turn : ℕ → ℕ → Bool
 is_turn files letter = nat_le 48 letter && nat_lt letter (48 + files) && nat_le letter 57
 
 unfoldable pub schedule_of : ℕ → List ℕ → Option (List ℕ)
-schedule_of files word = if nat_le 1 (length word) && list_all (is_turn files) word then Some (map (λ letter. letter - 48) word) else None
+schedule_of files word =
+    if nat_le 1 (length word)
+    && list_all (is_turn files) word then Some (map (λ letter. letter - 48) word) else None
 
 -- Between the completion of a part and the head that completed it: the store where the next item,
 -- which no guard refuses, is a head or END, and the part before it is complete.
 abbrev pub halfway_of : {C : Type 0} → Store C → Session C → List Item → Store C
 halfway_of store s [] = store
 halfway_of store s (item ∷ items) =
-    if is_none (guarded s.guards item.command) && (is_some (head_of item.command) || is_end item.command) then completed (record { store = store; part = part_of s.part }) else store
+    if is_none (guarded s.guards item.command)
+    && (is_some (head_of item.command) || is_end item.command) then completed
+    (record { store = store; part = part_of s.part }) else store
 
 abbrev pub halfway : {C : Type 0} → Turns C → ℕ → Store C
-halfway w n = elim (slice_get w.sessions n) [ None ↦ w.store | Some s ↦ if s.is_over then w.store else halfway_of w.store s s.items ]
+halfway w n =
+    elim (slice_get w.sessions n) [
+      | None ↦ w.store
+      | Some s ↦
+          if s.is_over then w.store else halfway_of w.store s s.items
+    ]
 
 abbrev pub IsHalfway : {C : Type 0} → Turns C → List ℕ → Store C → Type 0
 IsHalfway w [] now = ⊥
@@ -212,7 +267,12 @@ part_uuid part = elim (head_of part.head.command) [ None ↦ [] | Some h ↦ h.k
 -- complete, in the order of turns.
 abbrev pub group_of_event : Event → Group
 group_of_event (Begins head) = mark_of head.command
-group_of_event (Completes part) = body_of (record { uuid = part_uuid part; version = part.head.version; commands = map (λ item. item.command) part.edits })
+group_of_event (Completes part) =
+    body_of (record {
+      uuid = part_uuid part;
+      version = part.head.version;
+      commands = map (λ item. item.command) part.edits;
+    })
 
 unfoldable pub turn_groups : List Event → List Group
 turn_groups events = map group_of_event events
@@ -220,7 +280,12 @@ turn_groups events = map group_of_event events
 -- The entries of the parts that began, unfinished.
 unfoldable pub begun_entries : {S : Type 0} → List Event → List (Entry S)
 begun_entries [] = []
-begun_entries (Begins head ∷ events) = elim (head_of head.command) [ None ↦ begun_entries events | Some h ↦ unfinished h ∷ begun_entries events ]
+begun_entries (Begins head ∷ events) =
+    elim (head_of head.command) [
+      | None ↦ begun_entries events
+      | Some h ↦
+          unfinished h ∷ begun_entries events
+    ]
 begun_entries (Completes part ∷ events) = begun_entries events
 
 -- The uuids of parts.
@@ -230,7 +295,9 @@ uuids_of (part ∷ parts) = part_uuid part ∷ uuids_of parts
 
 -- The entries of the parts that began and did not complete.
 unfoldable pub left_open : {S : Type 0} → List Event → List (Entry S)
-left_open events = filter (λ e. not (is_among (uuids_of (completed_parts events)) e.key.uuid)) (begun_entries events)
+left_open events =
+    filter (λ e. not (is_among (uuids_of (completed_parts events)) e.key.uuid))
+    (begun_entries events)
 
 -- A part as a stream of its own: its head, its edits and END.
 abbrev pub as_stream : Taken → List Item
@@ -238,4 +305,5 @@ as_stream part = part.head ∷ (part.edits ++ record part.head { command = End }
 
 -- Receiving the completed parts one after the other, in the order of their completion.
 unfoldable pub one_by_one : {C : Type 0} → C → (Item → List C) → Store C → List Event → Run C
-one_by_one zero_cell cells store events = run_items zero_cell cells (start_of store) (flat_map as_stream (completed_parts events))
+one_by_one zero_cell cells store events =
+    run_items zero_cell cells (start_of store) (flat_map as_stream (completed_parts events))

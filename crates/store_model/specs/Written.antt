@@ -32,18 +32,22 @@ closed (Some begun) = body_of begun ∷ []
 
 -- A head and END close the part that is open, where no guard refuses them.
 abbrev pub closed_by : List Guard → Command → Option Begun → List Group
-closed_by guards command begun = if is_edit command then [] else elim (guarded guards command) [ Some refusal ↦ [] | None ↦ closed begun ]
+closed_by guards command begun =
+    if is_edit command then [] else elim
+    (guarded guards command) [ Some refusal ↦ [] | None ↦ closed begun ]
 
 -- A head begins a part.
 abbrev pub begun_by : Command → List Group
 begun_by command = elim (head_of command) [ None ↦ [] | Some head ↦ mark_of command ∷ [] ]
 
 abbrev pub and_command : Command → Begun → Begun
-and_command command begun = record { uuid = begun.uuid; version = begun.version; commands = begun.commands ++ command ∷ [] }
+and_command command begun =
+    record { uuid = begun.uuid; version = begun.version; commands = begun.commands ++ command ∷ [] }
 
 -- The part that is open behind an edit or END, and behind any item.
 abbrev pub begun_after_edit : Item → Option Begun → Option Begun
-begun_after_edit item begun = if is_end item.command then None else option_map (and_command item.command) begun
+begun_after_edit item begun =
+    if is_end item.command then None else option_map (and_command item.command) begun
 
 abbrev pub begun_after : Option Begun → Item → Option Begun
 begun_after begun item = elim (head_of item.command) [
@@ -55,7 +59,8 @@ begun_after begun item = elim (head_of item.command) [
 unfoldable pub groups_from : Watched (State ℕ) → Option Begun → List Item → List Group
 groups_from w begun [] = []
 groups_from w begun (item ∷ items) =
-    let after : After (Watched (State ℕ)) = watched_step (λ s i. step 0 (byte_cells i) s i.command) w item in
+    let after : After (Watched (State ℕ)) =
+    watched_step (λ s i. step 0 (byte_cells i) s i.command) w item in
     closed_by w.guards item.command begun ++ (elim after.refusal [
       | Some refusal ↦ []
       | None ↦ begun_by item.command ++ groups_from after.state (begun_after begun item) items
@@ -63,25 +68,30 @@ groups_from w begun (item ∷ items) =
 
 -- The groups of items that are received into a store under guards.
 abbrev pub groups_of : Store ℕ → List Guard → List Item → List Group
-groups_of store guards items = groups_from (record { guards = guards; state = start_of store }) None items
+groups_of store guards items =
+    groups_from (record { guards = guards; state = start_of store }) None items
 
 -- ---- laws
 
 -- They make of the store what receiving leaves, wherever they stand.
 abbrev pub WrittenIsReceived : Type 0
 WrittenIsReceived = (gate : ℕ) (store : Store ℕ) (guards : List Guard) (items : List Item)
-    → made_all 0 as_bytes gate store (groups_of store guards items) ≡ Some (received 0 byte_cells store guards items).state.state.store
+    → made_all 0 as_bytes gate store (groups_of store guards items)
+    ≡ Some (received 0 byte_cells store guards items).state.state.store
 
 -- The first of them, however many, make a state on the way, with all parts complete that are
 -- complete in it.
 abbrev pub FirstGroupsAreStates : Type 0
-FirstGroupsAreStates = (gate : ℕ) (store : Store ℕ) (guards : List Guard) (items : List Item) (first more : List Group)
+FirstGroupsAreStates =
+    (gate : ℕ) (store : Store ℕ) (guards : List Guard) (items : List Item) (first more : List Group)
     → groups_of store guards items ≡ first ++ more
     → (now : Store ℕ) × (made_all 0 as_bytes gate store first ≡ Some now)
-    × IsBetween (complete_behind store now) store (received 0 byte_cells store guards items).state.state.store now
+    × IsBetween (complete_behind store now) store
+    (received 0 byte_cells store guards items).state.state.store now
 
 -- Those of files of bytes, with names that an attribute has room for, can stand in an image of
 -- either format.
 abbrev pub WrittenIsLawful : Type 0
-WrittenIsLawful = (format : ℕ) (store : Store ℕ) (guards : List Guard) (files : NamedFiles) → AreGiven files
+WrittenIsLawful =
+    (format : ℕ) (store : Store ℕ) (guards : List Guard) (files : NamedFiles) → AreGiven files
     → AllByRecursion (IsGroup format) (groups_of store guards (read_of files).reading.items)

@@ -50,16 +50,19 @@ IsLogBodyStop format body number (StoreThere size) = ⊥
 
 abbrev pub IsBodyStop : ℕ → List ℕ → ℕ → ScrubStop → Type 0
 IsBodyStop format body number (Log why) = IsLogBodyStop format body number why
-IsBodyStop format body number (Damaged group stored computed) = (group ≡ number) × IsDamaged body stored computed
+IsBodyStop format body number (Damaged group stored computed) =
+    (group ≡ number) × IsDamaged body stored computed
 
 -- Why a comparison of a checksum with these four bytes stops: the disk failed, or they are not this
 -- checksum. That they differ is said by `IsStop`.
 abbrev pub IsOther : ℕ → List ℕ → ℕ → ScrubStop → Type 0
 IsOther number seal sum (Log why) = IsFault (Unit {0}) why
-IsOther number seal sum (Damaged group stored computed) = (group ≡ number) × (stored ≡ from_le_bytes w32 seal) × (computed ≡ sum)
+IsOther number seal sum (Damaged group stored computed) =
+    (group ≡ number) × (stored ≡ from_le_bytes w32 seal) × (computed ≡ sum)
 
 -- All groups that were read so far are whole, and so many of them have no checksum.
-pub record HasScrubbed (log : LogState) (seen : List ℕ) (pending : Pending) (plain : ℕ) : Type 0 where
+pub record HasScrubbed (log : LogState) (seen : List ℕ) (pending : Pending)
+    (plain : ℕ) : Type 0 where
   pub header : Header
   pub bodies : List (List ℕ)
   pub reads : Reads header bodies log seen pending

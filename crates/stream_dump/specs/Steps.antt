@@ -22,12 +22,16 @@ output out now = record { taken = out.taken now; faults = out.faults now }
 
 -- The bytes of an item are added.
 abbrev pub with_item : (Bool → Item → List ℕ) → Gathered → Item → Gathered
-with_item piece old item = record { bytes = old.bytes ++ piece old.begins item; begins = is_end item.command }
+with_item piece old item =
+    record { bytes = old.bytes ++ piece old.begins item; begins = is_end item.command }
 
 -- What was gathered is written, or the output failed in the middle.
 abbrev pub Sends : (old new : Gathered) (before now : Output) → Result (Unit {0}) Outcome → Type 0
-Sends old new before now (Ok done) = Appends before.taken now.taken old.bytes × (new ≡ record { bytes = []; begins = old.begins })
-Sends old new before now (Err outcome) = (outcome ≡ ended.OutputFault) × Rose before.faults now.faults × AppendsPart before.taken now.taken old.bytes
+Sends old new before now (Ok done) =
+    Appends before.taken now.taken old.bytes × (new ≡ record { bytes = []; begins = old.begins })
+Sends old new before now (Err outcome) =
+    (outcome ≡ ended.OutputFault) × Rose before.faults now.faults
+    × AppendsPart before.taken now.taken old.bytes
 
 -- The bytes of an item were added, and of all that was gathered then some is written, and the rest
 -- is gathered now.
@@ -50,9 +54,12 @@ StopsWriting before now (ended.InputChanged file place) = ⊥
 
 -- What is gathered with an item is gathered or written, or a front part of it was written where
 -- writing ends there.
-abbrev pub ItemEnds : (all new : Gathered) (before now : Output) → Result (Unit {0}) Outcome → Type 0
+abbrev pub ItemEnds : (all new : Gathered) (before now : Output) → Result (Unit {0}) Outcome
+    → Type 0
 ItemEnds all new before now (Ok done) = ItemAdded all new before.taken now.taken
-ItemEnds all new before now (Err outcome) = StopsWriting before.faults now.faults outcome × Wrote before.taken now.taken (IsFrontOf all.bytes)
+ItemEnds all new before now (Err outcome) =
+    StopsWriting before.faults now.faults outcome
+    × Wrote before.taken now.taken (IsFrontOf all.bytes)
 
 -- What is written of the gathered bytes where the writing ends so.
 abbrev pub last_bytes : Outcome → List ℕ → List ℕ
@@ -69,4 +76,5 @@ last_bytes (ended.InputChanged file place) bytes = bytes
 abbrev pub EndsWith : (bytes : List ℕ) (outcome : Outcome) (before now : Output) → Outcome → Type 0
 EndsWith bytes outcome before now result =
     ((result ≡ outcome) × Appends before.taken now.taken (last_bytes outcome bytes))
-    ⊎ ((result ≡ ended.OutputFault) × Rose before.faults now.faults × AppendsPart before.taken now.taken (last_bytes outcome bytes))
+    ⊎ ((result ≡ ended.OutputFault) × Rose before.faults now.faults
+    × AppendsPart before.taken now.taken (last_bytes outcome bytes))

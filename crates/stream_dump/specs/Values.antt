@@ -36,4 +36,6 @@ one_value contents kind field = 0x20 ∷ name_of kind ++ 0x3d ∷ value_with con
 
 -- A command's name and its values.
 unfoldable pub command_text : (List ℕ → List ℕ) → Command → List ℕ
-command_text contents command = (row (kind_of command)).name ++ values_with contents (row (kind_of command)).wanted (fields_of command)
+command_text contents command =
+    (row (kind_of command)).name
+    ++ values_with contents (row (kind_of command)).wanted (fields_of command)

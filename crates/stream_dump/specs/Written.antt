@@ -12,7 +12,8 @@ use Rattle.sx_base.specs.declared.outcome.Outcome.{Outcome}
 -- The bytes of items, of which the first begins a stream or does not.
 unfoldable pub pieces_from : (Bool → Item → List ℕ) → Bool → List Item → List ℕ
 pieces_from piece begins [] = []
-pieces_from piece begins (item ∷ items) = piece begins item ++ pieces_from piece (is_end item.command) items
+pieces_from piece begins (item ∷ items) =
+    piece begins item ++ pieces_from piece (is_end item.command) items
 
 -- All that is written of a file: the bytes of all that is read of it.
 unfoldable pub written_of : (Bool → Item → List ℕ) → List ℕ → List ℕ
@@ -29,7 +30,8 @@ StandsAs all (TooMuch sum) written = IsFrontOf all written
 -- front part of them where something else ends the call.
 abbrev pub WritesFile : (Bool → Item → List ℕ) → List ℕ → Outcome → List ℕ → Type 0
 WritesFile piece bytes outcome written =
-    EndsAs (file_due bytes) (StandsAs (written_of piece bytes)) (IsFrontOf (written_of piece bytes)) (IsFrontOf (written_of piece bytes)) outcome written
+    EndsAs (file_due bytes) (StandsAs (written_of piece bytes)) (IsFrontOf (written_of piece bytes))
+    (IsFrontOf (written_of piece bytes)) outcome written
 
 -- The lines that a command adds to a dump.
 abbrev pub dump_lines : Bool → Item → List ℕ

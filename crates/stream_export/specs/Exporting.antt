@@ -38,17 +38,23 @@ before now c = separator now.opened now.other now.state c
 -- What is known after what goes before a command: the file that is open then, and the path before
 -- it.
 abbrev pub opened_for : Exporting Blank → Command → Exporting Blank
-opened_for now c = record now { opened = open_anew now.opened now.state c; other = other_path now.other now.opened (written_path c) }
+opened_for now c =
+    record now {
+      opened = open_anew now.opened now.state c;
+      other = other_path now.other now.opened (written_path c);
+    }
 
 -- The path that is opened to write to it, if it is not open yet.
 abbrev pub opening : Option Opened → Option (List ℕ) → Option (List ℕ)
 opening opened None = None
-opening opened (Some path) = elim (kept_at opened (Some path)) [ None ↦ Some path | Some ino ↦ None ]
+opening opened (Some path) =
+    elim (kept_at opened (Some path)) [ None ↦ Some path | Some ino ↦ None ]
 
 -- What is known right before a command is taken: the same, where it opens a file; else what is
 -- known after what goes before it.
 abbrev pub ready_for : Exporting Blank → Command → Exporting Blank
-ready_for now c = elim (opening now.opened (written_path c)) [ None ↦ opened_for now c | Some path ↦ now ]
+ready_for now c =
+    elim (opening now.opened (written_path c)) [ None ↦ opened_for now c | Some path ↦ now ]
 
 -- A file that is open.
 abbrev pub opened_by : List ℕ → ℕ → Opened
@@ -64,7 +70,8 @@ opened_anew now path ino = record now {
 
 -- The header of a stream where the command begins one, what goes before it, and the command.
 abbrev pub export_bytes : Bool → Exporting Blank → ℕ → Command → List ℕ
-export_bytes begins now version c = header_before begins version ++ (all_receivable version (before now c) ++ receivable version c)
+export_bytes begins now version c =
+    header_before begins version ++ (all_receivable version (before now c) ++ receivable version c)
 
 -- ---- commands one after the other
 
@@ -85,5 +92,6 @@ SmallFrom point items = AreSmallBy blank_does point.now.state items
 -- else is read comes after.
 pub record Goes (old : Point) (items : List Item) (new : Point) (text : List ℕ) : Type 0 where
   pub accepted : AreAccepted (beside [] old.now.state) items (beside [] new.now.state)
-  pub written : (more : List Item) → written_from old (items ++ more) ≡ text ++ written_from new more
+  pub written : (more : List Item)
+      → written_from old (items ++ more) ≡ text ++ written_from new more
   pub small : (more : List Item) → SmallFrom new more → SmallFrom old (items ++ more)

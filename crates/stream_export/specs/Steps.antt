@@ -35,13 +35,15 @@ pub record Spot : Type 0 where
   pub taken : Option (List ℕ)
 
 abbrev pub spot_at : {O : Type 0} → writing.Ghosts O → Exporting Blank → Gathered → O → Spot
-spot_at out now gathered to = record { point = point_at now gathered; bytes = gathered.bytes; taken = out.taken to }
+spot_at out now gathered to =
+    record { point = point_at now gathered; bytes = gathered.bytes; taken = out.taken to }
 
 -- ---- one command
 
 -- A command is taken, and its bytes are appended, or it is refused and nothing is. Without memory
 -- nothing is said.
-abbrev pub Takes : (old : Point) (new : Exporting Blank) → Item → (bytes_old bytes_new : List ℕ) → Result (Unit {0}) Stop → Type 0
+abbrev pub Takes : (old : Point) (new : Exporting Blank) → Item → (bytes_old bytes_new : List ℕ)
+    → Result (Unit {0}) Stop → Type 0
 Takes old new item bytes_old bytes_new (Ok done) =
     (blank_does old.now.state item ≡ record { state = new.state; refusal = None })
     × (new ≡ exporting_after old.now item.command new.state)
@@ -65,7 +67,9 @@ pub record OneTaken (old new : Point) (item : Item) : Type 0 where
 
 -- It is refused, at its place.
 abbrev pub IsRefused : Point → Item → Verdict → Type 0
-IsRefused old item verdict = (refusal : meant.Refusal) × ((blank_does old.now.state item).refusal ≡ Some refusal) × (verdict_meant verdict ≡ verdict_of item refusal)
+IsRefused old item verdict =
+    (refusal : meant.Refusal) × ((blank_does old.now.state item).refusal ≡ Some refusal)
+    × (verdict_meant verdict ≡ verdict_of item refusal)
 
 -- The bytes of a command from a point on.
 abbrev pub bytes_at : Point → Item → List ℕ
@@ -73,18 +77,23 @@ bytes_at old item = export_bytes old.begins old.now item.version item.command
 
 -- Why a command ends an export: it is refused, there is no memory, or the output failed.
 abbrev pub ItemStops : (old new : Spot) → Item → (before now : ℕ) → Outcome → Type 0
-ItemStops old new item before now (ended.Refused verdict) = IsRefused old.point item verdict × Passes old.bytes new.bytes [] old.taken new.taken
+ItemStops old new item before now (ended.Refused verdict) =
+    IsRefused old.point item verdict × Passes old.bytes new.bytes [] old.taken new.taken
 ItemStops old new item before now ended.NoMemory = Wrote old.taken new.taken (λ w. w ≡ [])
 ItemStops old new item before now ended.OutputFault =
-    OneTaken old.point new.point item × Rose before now × Wrote old.taken new.taken (IsFrontOf (old.bytes ++ bytes_at old.point item))
+    OneTaken old.point new.point item × Rose before now
+    × Wrote old.taken new.taken (IsFrontOf (old.bytes ++ bytes_at old.point item))
 ItemStops old new item before now ended.Done = ⊥
 ItemStops old new item before now ended.InputFault = ⊥
 ItemStops old new item before now (ended.InputTooLong file) = ⊥
 ItemStops old new item before now (ended.TooMuch sum) = ⊥
 ItemStops old new item before now (ended.InputChanged file place) = ⊥
 
-abbrev pub ItemEnds : (old new : Spot) → Item → (before now : ℕ) → Result (Unit {0}) Outcome → Type 0
-ItemEnds old new item before now (Ok done) = OneTaken old.point new.point item × Passes old.bytes new.bytes (bytes_at old.point item) old.taken new.taken
+abbrev pub ItemEnds : (old new : Spot) → Item → (before now : ℕ) → Result (Unit {0}) Outcome
+    → Type 0
+ItemEnds old new item before now (Ok done) =
+    OneTaken old.point new.point item
+    × Passes old.bytes new.bytes (bytes_at old.point item) old.taken new.taken
 ItemEnds old new item before now (Err outcome) = ItemStops old new item before now outcome
 
 -- ---- what is read from a point on
@@ -92,14 +101,20 @@ ItemEnds old new item before now (Err outcome) = ItemStops old new item before n
 -- An outcome that ends an export early is the answer that is due, and all that is written from the
 -- point on was gathered or written. Where an object of the outside failed or there is no memory, a
 -- front part of it was written.
-abbrev pub Stops : (old : Spot) → Limited → (bytes : List ℕ) (taken : Option (List ℕ)) → Outcome → Type 0
+abbrev pub Stops : (old : Spot) → Limited → (bytes : List ℕ) (taken : Option (List ℕ)) → Outcome
+    → Type 0
 Stops old read bytes taken (ended.Refused verdict) =
-    (due_from_here (beside [] old.point.now.state) read ≡ RefusedAt (verdict_meant verdict)) × Passes old.bytes bytes (written_from old.point read.items) old.taken taken
+    (due_from_here (beside [] old.point.now.state) read ≡ RefusedAt (verdict_meant verdict))
+    × Passes old.bytes bytes (written_from old.point read.items) old.taken taken
 Stops old read bytes taken (ended.InputTooLong file) =
-    (due_from_here (beside [] old.point.now.state) read ≡ TooLong file) × Passes old.bytes bytes (written_from old.point read.items) old.taken taken
-Stops old read bytes taken ended.InputFault = Wrote old.taken taken (IsFrontOf (old.bytes ++ written_from old.point read.items))
-Stops old read bytes taken ended.OutputFault = Wrote old.taken taken (IsFrontOf (old.bytes ++ written_from old.point read.items))
-Stops old read bytes taken ended.NoMemory = Wrote old.taken taken (IsFrontOf (old.bytes ++ written_from old.point read.items))
+    (due_from_here (beside [] old.point.now.state) read ≡ TooLong file)
+    × Passes old.bytes bytes (written_from old.point read.items) old.taken taken
+Stops old read bytes taken ended.InputFault =
+    Wrote old.taken taken (IsFrontOf (old.bytes ++ written_from old.point read.items))
+Stops old read bytes taken ended.OutputFault =
+    Wrote old.taken taken (IsFrontOf (old.bytes ++ written_from old.point read.items))
+Stops old read bytes taken ended.NoMemory =
+    Wrote old.taken taken (IsFrontOf (old.bytes ++ written_from old.point read.items))
 Stops old read bytes taken ended.Done = ⊥
 Stops old read bytes taken (ended.TooMuch sum) = ⊥
 Stops old read bytes taken (ended.InputChanged file place) = ⊥
@@ -121,18 +136,28 @@ pub record FileTaken (said : Override) (file : ℕ) (old new : Spot) (bytes : Li
   pub passes : Passes old.bytes new.bytes text old.taken new.taken
 
 -- A file is exported, or it ends the export, whatever is read of the files that come after it.
-abbrev pub FileEnds : (said : Override) (file : ℕ) (old new : Spot) → Result (Unit {0}) Outcome → (bytes : List ℕ) → Type 0
+abbrev pub FileEnds : (said : Override) (file : ℕ) (old new : Spot) → Result (Unit {0}) Outcome
+    → (bytes : List ℕ) → Type 0
 FileEnds said file old new (Ok done) bytes = FileTaken said file old new bytes
-FileEnds said file old new (Err outcome) bytes = (more : Limited) → Stops old (then_others (read_with said (file_read file bytes)) more) new.bytes new.taken outcome
+FileEnds said file old new (Err outcome) bytes =
+    (more : Limited)
+    → Stops old
+    (then_others (read_with said (file_read file bytes)) more) new.bytes new.taken outcome
 
 -- ---- all files
 
 -- All commands of the files are taken, with what is said in front of them.
-pub record AllTaken (overrides : Overrides) (old : Spot) (bytes : List ℕ) (taken : Option (List ℕ)) (files : List (List ℕ)) : Type 0 where
-  pub done : due_from_here (beside [] old.point.now.state) (overridden_limited overrides (limited_from 1 files)) ≡ DoneWhole
-  pub passes : Passes old.bytes bytes (written_from old.point (overridden_limited overrides (limited_from 1 files)).items) old.taken taken
+pub record AllTaken (overrides : Overrides) (old : Spot) (bytes : List ℕ) (taken : Option (List ℕ))
+    (files : List (List ℕ)) : Type 0 where
+  pub done : due_from_here (beside [] old.point.now.state)
+      (overridden_limited overrides (limited_from 1 files)) ≡ DoneWhole
+  pub passes : Passes old.bytes bytes
+      (written_from old.point
+      (overridden_limited overrides (limited_from 1 files)).items) old.taken taken
   pub small : SmallFrom old.point (overridden overrides (input files)).items
 
-abbrev pub AllEnd : Overrides → (old : Spot) (bytes : List ℕ) (taken : Option (List ℕ)) → Result (Unit {0}) Outcome → (files : List (List ℕ)) → Type 0
+abbrev pub AllEnd : Overrides → (old : Spot) (bytes : List ℕ) (taken : Option (List ℕ))
+    → Result (Unit {0}) Outcome → (files : List (List ℕ)) → Type 0
 AllEnd overrides old bytes taken (Ok done) files = AllTaken overrides old bytes taken files
-AllEnd overrides old bytes taken (Err outcome) files = Stops old (overridden_limited overrides (limited_from 1 files)) bytes taken outcome
+AllEnd overrides old bytes taken (Err outcome) files =
+    Stops old (overridden_limited overrides (limited_from 1 files)) bytes taken outcome

@@ -37,10 +37,12 @@ abbrev pub part_by : (uuid before : List ℕ) (part : ℕ) → Drawn → List Co
 part_by uuid before part d =
     Snapshot uuid part (part_name part) before (part - 1)
     ∷ Write (file_name d.file) (4_096 * d.block) (replicate 4_096 d.byte)
-    ∷ Clone (file_name d.goal) (4_096 * d.goal_block) before (part - 1) (file_name d.source) (4_096 * d.source_block) 4_096
+    ∷ Clone (file_name d.goal) (4_096 * d.goal_block) before (part - 1) (file_name d.source)
+    (4_096 * d.source_block) 4_096
     ∷ Rename (file_name d.file) (codes "t") ∷ Rename (codes "t") (file_name d.file) ∷ End ∷ []
 
 -- The clone in it.
 abbrev pub clone_by : (before : List ℕ) (part : ℕ) → Drawn → Command
 clone_by before part d =
-    Clone (file_name d.goal) (4_096 * d.goal_block) before (part - 1) (file_name d.source) (4_096 * d.source_block) 4_096
+    Clone (file_name d.goal) (4_096 * d.goal_block) before (part - 1) (file_name d.source)
+    (4_096 * d.source_block) 4_096

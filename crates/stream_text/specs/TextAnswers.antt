@@ -11,4 +11,5 @@ use Rattle.text_model.specs.Texts.{text_in}
 -- front part of them where something else ends the call.
 abbrev pub TextEnds : List ℕ → Outcome → List ℕ → Type 0
 TextEnds bytes outcome written =
-    EndsAs (file_due bytes) (StandsAs (text_in bytes)) (IsFrontOf (text_in bytes)) (IsFrontOf (text_in bytes)) outcome written
+    EndsAs (file_due bytes) (StandsAs (text_in bytes)) (IsFrontOf (text_in bytes))
+    (IsFrontOf (text_in bytes)) outcome written

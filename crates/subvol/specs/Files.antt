@@ -13,13 +13,16 @@ abbrev pub file_at : {C : Type 0} → Subvolume C → List ℕ → Result ℕ Re
 file_at s path = walk s path >>= λ ino. require (is_file s ino) NotFile >> Ok ino
 
 -- The file that a clone changes, and the file of its source.
-abbrev pub clone_files : {C : Type 0} → Subvolume C → List ℕ → Subvolume C → List ℕ → Result (ℕ × ℕ) Refusal
+abbrev pub clone_files : {C : Type 0} → Subvolume C → List ℕ → Subvolume C → List ℕ
+    → Result (ℕ × ℕ) Refusal
 clone_files part path other clone_path =
-    require (is_some (path_names path)) BadPath >> (require (is_some (path_names clone_path)) BadPath
+    require (is_some (path_names path)) BadPath >>
+    (require (is_some (path_names clone_path)) BadPath
     >> (file_at part path >>= λ ino. file_at other clone_path >>= λ source. Ok (ino, source)))
 
 -- The tests of a clone's range, for the size of its source.
 abbrev pub check_range : ℕ → ℕ → ℕ → ℕ → Result (Unit {0}) Refusal
 check_range offset from len size =
-    refuse_if ((len == 0) || nat_lt size (from + len)) BadRange >> (require (is_aligned offset from len size) Unaligned
+    refuse_if ((len == 0) || nat_lt size (from + len)) BadRange >>
+    (require (is_aligned offset from len size) Unaligned
     >> require (nat_le (offset + len) greatest_end) FileTooBig)

@@ -29,10 +29,12 @@ EndedIn None at count before now place = Rose before now × ((at ≤ place) × (
 EndedIn (Some files) at count before now place = ⊥
 
 -- Each reason why bytes are lost has its own count that rose: that of faults, or that of ends.
-abbrev pub LostFor : Option (List (List ℕ × List ℕ)) → (at count : ℕ) → (before now : Counts) → Result (Unit {0}) Lost → Type 0
+abbrev pub LostFor : Option (List (List ℕ × List ℕ)) → (at count : ℕ) → (before now : Counts)
+    → Result (Unit {0}) Lost → Type 0
 LostFor told at count before now (Ok done) = ⊤
 LostFor told at count before now (Err lost.Failed) = Rose before.reads now.reads
-LostFor told at count before now (Err (lost.Ended place)) = EndedIn told at count before.ends now.ends place
+LostFor told at count before now (Err (lost.Ended place)) =
+    EndedIn told at count before.ends now.ends place
 
 -- The name of a file, and the place where it ended before bytes that were read of it once.
 pub record EarlyEnd : Type 0 where

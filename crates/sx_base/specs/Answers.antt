@@ -25,5 +25,6 @@ Gives view (Err stop.NoMemory) said = Unit {0}
 -- nothing. Where there is no memory nothing is said of the value.
 abbrev pub MayChange : {A S : Type 0} → Result A Stop → S → S → Result S meant.Refusal → Type 0
 MayChange (Ok _) old new said = said ≡ Ok new
-MayChange (Err (stop.Refused refusal)) old new said = (said ≡ Err (refusal_of refusal)) × (new ≡ old)
+MayChange (Err (stop.Refused refusal)) old new said =
+    (said ≡ Err (refusal_of refusal)) × (new ≡ old)
 MayChange (Err stop.NoMemory) old new said = Unit {0}

@@ -35,7 +35,8 @@ Adds before now the_ask = (asks : List Ask) → before asks → now (asks ++ the
 -- A file is read on from one place to another: each call asks from where the one before it ended.
 unfoldable pub IsReadOn : (name : List ℕ) (from : ℕ) (asks : List Ask) (to : ℕ) → Type 0
 IsReadOn name from [] to = to ≡ from
-IsReadOn name from (a ∷ asks) to = (a ≡ ask name from a.count) × IsReadOn name (from + a.count) asks to
+IsReadOn name from (a ∷ asks) to =
+    (a ≡ ask name from a.count) × IsReadOn name (from + a.count) asks to
 
 -- A file is read once, from its front on, as far as it is read at all.
 abbrev pub IsReadOnce : (name : List ℕ) (asks : List Ask) → Type 0
@@ -44,7 +45,9 @@ IsReadOnce name asks = (to : ℕ) × IsReadOn name 0 asks to
 -- Files are read once, one after the other in their order.
 unfoldable pub AreReadOnce : (names : List (List ℕ)) (asks : List Ask) → Type 0
 AreReadOnce [] asks = asks ≡ []
-AreReadOnce (name ∷ names) asks = (first rest : List Ask) × (asks ≡ first ++ rest) × IsReadOnce name first × AreReadOnce names rest
+AreReadOnce (name ∷ names) asks =
+    (first rest : List Ask) × (asks ≡ first ++ rest) × IsReadOnce name first
+    × AreReadOnce names rest
 
 -- ---- files that are read twice, and of which data are read again
 
@@ -64,11 +67,14 @@ pub record IsData (file : ℕ) (bytes : List ℕ) (place : ℕ) : Type 0 where
 -- So is each byte of a range, where the inputs tell.
 abbrev pub AreData : Option (List (List ℕ × List ℕ)) → (file : ℕ) → List ℕ → ℕ → ℕ → Type 0
 AreData None file name place count = ⊤
-AreData (Some files) file name place count = (k : ℕ) → k < count → IsData file (file_at files name) (place + k)
+AreData (Some files) file name place count =
+    (k : ℕ) → k < count → IsData file (file_at files name) (place + k)
 
 -- A range of data of one of these files, where the inputs tell.
 abbrev pub IsRangeIn : Option (List (List ℕ × List ℕ)) → (names : List (List ℕ)) → Ask → Type 0
-IsRangeIn told names a = (n : ℕ) × (n < length names) × (a.name ≡ get_or names n []) × LiesIn told a.name a.place a.count × AreData told (n + 1) a.name a.place a.count
+IsRangeIn told names a =
+    (n : ℕ) × (n < length names) × (a.name ≡ get_or names n []) × LiesIn told a.name a.place a.count
+    × AreData told (n + 1) a.name a.place a.count
 
 -- What is asked for again are such ranges.
 abbrev pub IsIfAgain : Option (List (List ℕ × List ℕ)) → (names : List (List ℕ)) → Ask → Type 0
@@ -79,22 +85,28 @@ abbrev pub IsAgain : Option (List (List ℕ × List ℕ)) → (names : List (Lis
 IsAgain told names a = (a.again ≡ true) × IsRangeIn told names a
 
 -- A file is read on from one place to another, and in between only ranges of data are read again.
-pub record IsReadOnWithRanges (told : Option (List (List ℕ × List ℕ))) (names : List (List ℕ)) (name : List ℕ) (from : ℕ) (asks : List Ask) (to : ℕ) : Type 0 where
+pub record IsReadOnWithRanges (told : Option (List (List ℕ × List ℕ))) (names : List (List ℕ))
+    (name : List ℕ) (from : ℕ) (asks : List Ask) (to : ℕ) : Type 0 where
   pub on : IsReadOn name from (first_asks asks) to
   pub ranges : AllByRecursion (IsIfAgain told names) asks
 
 -- A file is read once, with ranges of data.
-abbrev pub IsReadWithRanges : Option (List (List ℕ × List ℕ)) → (names : List (List ℕ)) (name : List ℕ) (asks : List Ask) → Type 0
+abbrev pub IsReadWithRanges : Option (List (List ℕ × List ℕ))
+    → (names : List (List ℕ)) (name : List ℕ) (asks : List Ask) → Type 0
 IsReadWithRanges told names name asks = (to : ℕ) × IsReadOnWithRanges told names name 0 asks to
 
 -- Files are read once, and in between only ranges of their data are read again.
-pub record AreReadWithRanges (told : Option (List (List ℕ × List ℕ))) (names : List (List ℕ)) (asks : List Ask) : Type 0 where
+pub record AreReadWithRanges (told : Option (List (List ℕ × List ℕ))) (names : List (List ℕ))
+    (asks : List Ask) : Type 0 where
   pub once : AreReadOnce names (first_asks asks)
   pub ranges : AllByRecursion (IsIfAgain told names) asks
 
 -- Files are read once, and then once more with ranges of data.
-abbrev pub AreReadTwice : Option (List (List ℕ × List ℕ)) → (names : List (List ℕ)) (asks : List Ask) → Type 0
-AreReadTwice told names asks = (first then : List Ask) × (asks ≡ first ++ then) × AreReadOnce names first × AreReadWithRanges told names then
+abbrev pub AreReadTwice : Option (List (List ℕ × List ℕ))
+    → (names : List (List ℕ)) (asks : List Ask) → Type 0
+AreReadTwice told names asks =
+    (first then : List Ask) × (asks ≡ first ++ then) × AreReadOnce names first
+    × AreReadWithRanges told names then
 
 -- ---- files that take turns
 
@@ -109,5 +121,7 @@ nowhere = record { name = []; place = 0 }
 -- Files are read on in turn: each call asks one of them from where the last one of it ended.
 unfoldable pub AreReadInTurn : (from : List ReadTo) (asks : List Ask) (to : List ReadTo) → Type 0
 AreReadInTurn from [] to = to ≡ from
-AreReadInTurn from (a ∷ asks) to = (n : ℕ) × (n < length from) × (a ≡ ask (get_or from n nowhere).name (get_or from n nowhere).place a.count)
+AreReadInTurn from (a ∷ asks) to =
+    (n : ℕ) × (n < length from)
+    × (a ≡ ask (get_or from n nowhere).name (get_or from n nowhere).place a.count)
     × AreReadInTurn (set from n (record { name = a.name; place = a.place + a.count })) asks to

@@ -19,7 +19,8 @@ abbrev pub contents : List (List ℕ × List ℕ) → List (List ℕ) → List (
 contents table names = map (file_at table) names
 
 -- A fact about named files, where the inputs tell their files.
-abbrev pub IfAllTold : Option (List (List ℕ × List ℕ)) → List (List ℕ) → (List (List ℕ) → Type 0) → Type 0
+abbrev pub IfAllTold : Option (List (List ℕ × List ℕ)) → List (List ℕ) → (List (List ℕ) → Type 0)
+    → Type 0
 IfAllTold None names P = ⊤
 IfAllTold (Some table) names P = P (contents table names)
 
@@ -53,9 +54,11 @@ CausedAgain before now ended.NoMemory = ⊤
 CausedAgain before now (ended.InputTooLong file) = ⊤
 CausedAgain before now (ended.TooMuch sum) = ⊤
 
-abbrev pub ErrCaused : {T : Type 0} → (inputs_before inputs_now out_before out_now : ℕ) → Result T Outcome → Type 0
+abbrev pub ErrCaused : {T : Type 0} → (inputs_before inputs_now out_before out_now : ℕ)
+    → Result T Outcome → Type 0
 ErrCaused inputs_before inputs_now out_before out_now (Ok x) = ⊤
-ErrCaused inputs_before inputs_now out_before out_now (Err outcome) = Caused inputs_before inputs_now out_before out_now outcome
+ErrCaused inputs_before inputs_now out_before out_now (Err outcome) =
+    Caused inputs_before inputs_now out_before out_now outcome
 
 -- ---- where all was done
 
@@ -101,7 +104,8 @@ FoundChanged names last ended.NoMemory = ⊤
 FoundChanged names last (ended.InputTooLong file) = ⊤
 FoundChanged names last (ended.TooMuch sum) = ⊤
 
-abbrev pub ErrFoundChanged : {T : Type 0} → (names : List (List ℕ)) (last : EarlyEnd) → Result T Outcome → Type 0
+abbrev pub ErrFoundChanged : {T : Type 0} → (names : List (List ℕ)) (last : EarlyEnd)
+    → Result T Outcome → Type 0
 ErrFoundChanged names last (Ok x) = ⊤
 ErrFoundChanged names last (Err outcome) = FoundChanged names last outcome
 
@@ -110,11 +114,17 @@ ErrFoundChanged names last (Err outcome) = FoundChanged names last outcome
 -- An outcome that the files decide is the one answer that is due, and what was written stands as it
 -- says. Where the inputs failed or were changed, or there was no memory, what was written stands as
 -- before an end, and where the output failed, it is cut.
-abbrev pub EndsAs : Due → (stands : Due → List ℕ → Type 0) (before cut : List ℕ → Type 0) → Outcome → List ℕ → Type 0
-EndsAs the_due stands before cut ended.Done written = (the_due ≡ DoneWhole) × stands DoneWhole written
-EndsAs the_due stands before cut (ended.Refused verdict) written = (the_due ≡ RefusedAt (verdict_meant verdict)) × stands (RefusedAt (verdict_meant verdict)) written
-EndsAs the_due stands before cut (ended.InputTooLong file) written = (the_due ≡ TooLong file) × stands (TooLong file) written
-EndsAs the_due stands before cut (ended.TooMuch sum) written = (the_due ≡ TooMuch sum) × stands (TooMuch sum) written
+abbrev pub EndsAs : Due → (stands : Due → List ℕ → Type 0) (before cut : List ℕ → Type 0) → Outcome
+    → List ℕ → Type 0
+EndsAs the_due stands before cut ended.Done written =
+    (the_due ≡ DoneWhole) × stands DoneWhole written
+EndsAs the_due stands before cut (ended.Refused verdict) written =
+    (the_due ≡ RefusedAt (verdict_meant verdict))
+    × stands (RefusedAt (verdict_meant verdict)) written
+EndsAs the_due stands before cut (ended.InputTooLong file) written =
+    (the_due ≡ TooLong file) × stands (TooLong file) written
+EndsAs the_due stands before cut (ended.TooMuch sum) written =
+    (the_due ≡ TooMuch sum) × stands (TooMuch sum) written
 EndsAs the_due stands before cut ended.InputFault written = before written
 EndsAs the_due stands before cut (ended.InputChanged file place) written = before written
 EndsAs the_due stands before cut ended.OutputFault written = cut written
@@ -123,4 +133,5 @@ EndsAs the_due stands before cut ended.NoMemory written = before written
 -- The same of a request over a base.
 abbrev pub Ends : Request → Store ℕ → List (List ℕ) → Outcome → List ℕ → Type 0
 Ends request base files outcome written =
-    EndsAs (due request base files) (EndSays request base files) (StandsBefore request base files) (StandsCut request base files) outcome written
+    EndsAs (due request base files) (EndSays request base files) (StandsBefore request base files)
+    (StandsCut request base files) outcome written

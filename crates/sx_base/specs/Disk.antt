@@ -32,7 +32,8 @@ forget zero zero (place ∷ known) = place ∷ known
 
 -- After a write of `count` bytes at `at`, whether it was done or failed.
 abbrev pub written : ℕ → ℕ → Pending → Pending
-written at count pending = record { known = forget at count pending.known; greatest = max pending.greatest (at + count) }
+written at count pending =
+    record { known = forget at count pending.known; greatest = max pending.greatest (at + count) }
 
 -- After a cut to this size, whether it was done or failed: the size was reached.
 abbrev pub shortened : ℕ → Pending → Pending
@@ -43,7 +44,8 @@ abbrev pub settled : List ℕ → Pending
 settled bytes = record { known = map Some bytes; greatest = length bytes }
 
 -- What is read and what a crash may leave are as before.
-pub record IsAsBefore {D : Type 0} (seen_of : D → List ℕ) (pending_of : D → Pending) (old new : D) : Type 0 where
+pub record IsAsBefore {D : Type 0} (seen_of : D → List ℕ) (pending_of : D → Pending)
+    (old new : D) : Type 0 where
   pub seen : seen_of new ≡ seen_of old
   pub pending : pending_of new ≡ pending_of old
 
@@ -59,8 +61,10 @@ pub record Rises (before now : ℕ) : Type 0 where
 
 -- Time goes on: a crash at some moment since t may have left what one since t may have left before
 -- the call, or what one may leave now, and nothing else.
-pub record Elapses (before : ℕ) (past since : ℕ → List ℕ → Type 0) (pending : Pending) : Type 0 where
-  pub nothing_else : (t : ℕ) (image : List ℕ) → t ≤ before → since t image → past t image ⊎ IsImage pending image
+pub record Elapses (before : ℕ) (past since : ℕ → List ℕ → Type 0)
+    (pending : Pending) : Type 0 where
+  pub nothing_else : (t : ℕ) (image : List ℕ) → t ≤ before → since t image
+      → past t image ⊎ IsImage pending image
   pub keeps : (t : ℕ) (image : List ℕ) → t ≤ before → past t image → since t image
 
 -- What a disk says of itself for all its calls: whether it tells what it contains, its clock, which
@@ -73,12 +77,22 @@ pub record DiskMembers (D : Type 0) : Type 1 where
   pub pending : D → Pending
   pub faults : D → ℕ
 
-abbrev pub members : {D : Type 0} (tells : Type 0) (moment : D → ℕ) (left_since : D → ℕ → List ℕ → Type 0) (pending : D → Pending) (faults : D → ℕ) → DiskMembers D
-members tells moment left_since pending faults = record { tells = tells; moment = moment; left_since = left_since; pending = pending; faults = faults }
+abbrev pub members : {D : Type 0} (tells : Type 0) (moment : D → ℕ)
+    (left_since : D → ℕ → List ℕ → Type 0) (pending : D → Pending) (faults : D → ℕ) → DiskMembers D
+members tells moment left_since pending faults =
+    record {
+      tells = tells;
+      moment = moment;
+      left_since = left_since;
+      pending = pending;
+      faults = faults;
+    }
 
 -- What holds of every call to a disk, whatever it answers: the clock rose; where the disk tells,
 -- time went on; the count of faults did not fall, and a failure has its cause in it.
-pub record Passes {D T E : Type 0} (disk : DiskMembers D) (old new : D) (result : Result T E) : Type 0 where
+pub record Passes {D T E : Type 0} (disk : DiskMembers D) (old new : D)
+    (result : Result T E) : Type 0 where
   pub clock : Rises (disk.moment old) (disk.moment new)
-  pub time : disk.tells → Elapses (disk.moment old) (disk.left_since old) (disk.left_since new) (disk.pending new)
+  pub time : disk.tells
+      → Elapses (disk.moment old) (disk.left_since old) (disk.left_since new) (disk.pending new)
   pub cause : HasCause (disk.faults old) (disk.faults new) result

@@ -23,4 +23,5 @@ GivesAt (Some files) name at buf count = IsPieceAt (file_at files name) at buf c
 
 -- A sink that tells took a proper prefix of the piece.
 abbrev pub AppendsPart : Option (List ℕ) → Option (List ℕ) → List ℕ → Type 0
-AppendsPart old new piece = (count : ℕ) × (count < length piece) × Appends old new (take count piece)
+AppendsPart old new piece =
+    (count : ℕ) × (count < length piece) × Appends old new (take count piece)

@@ -48,4 +48,5 @@ refusal_of made.NoNumber = meant.NoNumber
 
 -- A verdict of the code as that of the definitions.
 abbrev pub verdict_meant : Verdict → reading.Verdict
-verdict_meant v = record { file = v.file; command = v.command; offset = v.offset; refusal = refusal_of v.refusal }
+verdict_meant v =
+    record { file = v.file; command = v.command; offset = v.offset; refusal = refusal_of v.refusal }

@@ -14,4 +14,5 @@ abbrev pub AreFormed : List ℕ → List Field → Type 0
 AreFormed [] [] = Unit {0}
 AreFormed [] (field ∷ fields) = ⊥
 AreFormed (kind ∷ kinds) [] = ⊥
-AreFormed (kind ∷ kinds) (field ∷ fields) = (form_of kind ≡ form_of_field field) × AreFormed kinds fields
+AreFormed (kind ∷ kinds) (field ∷ fields) =
+    (form_of kind ≡ form_of_field field) × AreFormed kinds fields

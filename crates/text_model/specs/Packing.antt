@@ -20,7 +20,8 @@ onto_first byte (line ∷ lines) = (byte ∷ line) ∷ lines
 -- bytes; it is not a whole one.
 unfoldable pub lines_of : List ℕ → List (List ℕ)
 lines_of [] = []
-lines_of (byte ∷ bytes) = if byte == 0x0a then (0x0a ∷ []) ∷ lines_of bytes else onto_first byte (lines_of bytes)
+lines_of (byte ∷ bytes) =
+    if byte == 0x0a then (0x0a ∷ []) ∷ lines_of bytes else onto_first byte (lines_of bytes)
 
 -- ---- the line that is named
 
@@ -51,7 +52,13 @@ place_of_line before bytes = length (concat (first_lines before bytes))
 
 -- The verdict on it: its number, counted from 1, and the place of its first byte.
 abbrev pub bad_text : ℕ → List ℕ → Verdict
-bad_text before bytes = record { file = 1; command = before + 1; offset = place_of_line before bytes; refusal = BadText }
+bad_text before bytes =
+    record {
+      file = 1;
+      command = before + 1;
+      offset = place_of_line before bytes;
+      refusal = BadText;
+    }
 
 -- ---- long lines and long files
 
@@ -62,13 +69,15 @@ longest_line = 2 ^ 21
 -- A line that ends, or passes 2^21 bytes, within the first 2^62 bytes.
 pub record IsMet (bytes : List ℕ) (before : ℕ) (line : List ℕ) : Type 0 where
   pub line_is : slice_get (lines_of bytes) before ≡ Some line
-  pub ends_or_passes : ((place_of_line (before + 1) bytes ≤ limit) × ((text : List ℕ) × (line ≡ text ++ 0x0a ∷ [])))
+  pub ends_or_passes :
+      ((place_of_line (before + 1) bytes ≤ limit) × ((text : List ℕ) × (line ≡ text ++ 0x0a ∷ [])))
       ⊎ ((longest_line < length line) × (place_of_line before bytes + longest_line < limit))
 
 -- A file of 2^62 bytes or more is too long where each such line is right.
 pub record IsTooLongText (bytes : List ℕ) : Type 0 where
   pub long : limit ≤ length bytes
-  pub right : (before : ℕ) (line : List ℕ) → IsMet bytes before line → BeginsText (first_lines (before + 1) bytes)
+  pub right : (before : ℕ) (line : List ℕ) → IsMet bytes before line
+      → BeginsText (first_lines (before + 1) bytes)
 
 -- A wrong line is named where the file is short enough to be read to its end, or the line is met
 -- before that.
@@ -80,7 +89,8 @@ IsNamed bytes before = (length bytes < limit) ⊎ ((line : List ℕ) × IsMet by
 -- The answer that is due to a text.
 abbrev pub IsPackDue : List ℕ → Due → Type 0
 IsPackDue bytes DoneWhole = (length bytes < limit) × IsText bytes
-IsPackDue bytes (RefusedAt verdict) = (before : ℕ) × IsBadLine bytes before × IsNamed bytes before × (verdict ≡ bad_text before bytes)
+IsPackDue bytes (RefusedAt verdict) =
+    (before : ℕ) × IsBadLine bytes before × IsNamed bytes before × (verdict ≡ bad_text before bytes)
 IsPackDue bytes (TooLong file) = (file ≡ 1) × IsTooLongText bytes
 IsPackDue bytes (TooMuch sum) = ⊥
 
@@ -92,11 +102,13 @@ Packs front written = (b : BeginsText front) × (written ≡ bytes_of_lines b.li
 -- one what stands before the line that is named, or a front part of it.
 pub record IsPackedPart (bytes written : List ℕ) : Type 0 where
   pub lawful : (t : IsText bytes) → IsProperFrontOf (packed_of t.streams) written
-  pub other : (before : ℕ) (b : IsBadLine bytes before) → IsFrontOf (bytes_of_lines b.front.lines) written
+  pub other : (before : ℕ) (b : IsBadLine bytes before)
+      → IsFrontOf (bytes_of_lines b.front.lines) written
 
 -- What was written where the text decides.
 abbrev pub PackSays : List ℕ → Due → List ℕ → Type 0
 PackSays bytes DoneWhole written = (t : IsText bytes) × (written ≡ packed_of t.streams)
-PackSays bytes (RefusedAt verdict) written = (before : ℕ) × (verdict ≡ bad_text before bytes) × Packs (first_lines before bytes) written
+PackSays bytes (RefusedAt verdict) written =
+    (before : ℕ) × (verdict ≡ bad_text before bytes) × Packs (first_lines before bytes) written
 PackSays bytes (TooLong file) written = IsPackedPart bytes written
 PackSays bytes (TooMuch sum) written = ⊥

@@ -17,7 +17,8 @@ use Rattle.send_model.specs.Laws.{AreInner}
 -- two lower hexadecimal digits for each byte.
 unfoldable pub text_line : Command → List ℕ
 text_line command =
-    (row (kind_of command)).name ++ values_with hex_bytes (row (kind_of command)).wanted (fields_of command) ++ 0x0a ∷ []
+    (row (kind_of command)).name
+    ++ values_with hex_bytes (row (kind_of command)).wanted (fields_of command) ++ 0x0a ∷ []
 
 -- What a line says: that a stream of a version begins, or a command of a stream of a version.
 pub data Line : Type 0 where
@@ -98,7 +99,8 @@ text_in bytes = text_from true (reads 1 bytes).items
 unfoldable pub canonical_from : Bool → List Item → List ℕ
 canonical_from begins [] = []
 canonical_from begins (item ∷ items) =
-    (if begins then stream_header item.version else []) ++ canonical item.version item.command ++ canonical_from (is_end item.command) items
+    (if begins then stream_header item.version else []) ++ canonical item.version item.command
+    ++ canonical_from (is_end item.command) items
 
 -- Those of a file.
 unfoldable pub canonical_in : List ℕ → List ℕ

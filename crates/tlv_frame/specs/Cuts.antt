@@ -38,20 +38,25 @@ all_handed (Asked answer ∷ turns) = with_handed answer (all_handed turns)
 -- is due, in front of the rest.
 abbrev pub AreRead : Due → List ℕ → List Handed → Due → List ℕ → Type 0
 AreRead due bytes [] last rest = (due ≡ last) × (bytes ≡ rest)
-AreRead due bytes (h ∷ units) last rest = (handed due bytes ≡ Ok h) × AreRead h.due (drop h.taken bytes) units last rest
+AreRead due bytes (h ∷ units) last rest =
+    (handed due bytes ≡ Ok h) × AreRead h.due (drop h.taken bytes) units last rest
 
 -- Whatever bytes follow those that were given, the headers and frames that were handed out are the
 -- first ones of all the bytes. Where the feed refuses, the definitions refuse what is left, for the
 -- same reason; where it waits, what is left is cut short; and what it hands out next is what they
 -- read next.
 pub record IsOneReading (turns : List Turn) (fed : Fed) (more : List ℕ) : Type 0 where
-  pub units : AreRead HeaderDue (all_given turns ++ more) (all_handed turns) fed.due (fed.left ++ more)
+  pub units : AreRead HeaderDue (all_given turns ++ more) (all_handed turns) fed.due
+      (fed.left ++ more)
   pub next : (h : Handed) → next_of fed ≡ Ok (Some h) → handed fed.due (fed.left ++ more) ≡ Ok h
-  pub refused : (refusal : Refusal) → next_of fed ≡ Err refusal → handed fed.due (fed.left ++ more) ≡ Err refusal
+  pub refused : (refusal : Refusal) → next_of fed ≡ Err refusal
+      → handed fed.due (fed.left ++ more) ≡ Err refusal
   pub waits : next_of fed ≡ Ok None → handed fed.due fed.left ≡ Err Truncated
 
 abbrev pub CutsAreOneReading : Type 0
-CutsAreOneReading = (turns : List Turn) (fed : Fed) (more : List ℕ) → LeadTo unfed turns fed → IsOneReading turns fed more
+CutsAreOneReading =
+    (turns : List Turn) (fed : Fed) (more : List ℕ) → LeadTo unfed turns fed
+    → IsOneReading turns fed more
 
 -- A feed that waits has room for at least one byte more.
 abbrev pub WaitsWithRoom : Type 0

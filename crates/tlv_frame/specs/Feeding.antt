@@ -51,7 +51,13 @@ abbrev pub due_past : ℕ → ℕ → Due
 due_past version number = if is_end number then HeaderDue else CommandDue version
 
 abbrev pub head_handed : ℕ → Handed
-head_handed version = record { piece = HeadPiece version; taken = header_len; due = CommandDue version; ended = false }
+head_handed version =
+    record {
+      piece = HeadPiece version;
+      taken = header_len;
+      due = CommandDue version;
+      ended = false;
+    }
 
 abbrev pub frame_handed : ℕ → ℕ → List ℕ → Handed
 frame_handed version number body = record {
@@ -64,7 +70,8 @@ frame_handed version number body = record {
 -- The piece in front of bytes, or the refusal of these.
 abbrev pub handed : Due → List ℕ → Result Handed meant.Refusal
 handed HeaderDue bytes = stream_version bytes >>= λ version. Ok (head_handed version)
-handed (CommandDue version) bytes = frame_at bytes >>= λ frame. Ok (frame_handed version frame.number frame.body)
+handed (CommandDue version) bytes =
+    frame_at bytes >>= λ frame. Ok (frame_handed version frame.number frame.body)
 
 -- Bytes that are only cut short may go on: there is none yet.
 abbrev pub unless_more : {A : Type 0} → Result A meant.Refusal → Result (Option A) meant.Refusal
@@ -73,12 +80,20 @@ unless_more (Err refusal) = if is_truncated refusal then Ok None else Err refusa
 
 -- What is handed out next. A refusal stays.
 abbrev pub next_of : Fed → Result (Option Handed) meant.Refusal
-next_of fed = elim fed.refused [ None ↦ unless_more (handed fed.due fed.left) | Some refusal ↦ Err refusal ]
+next_of fed =
+    elim fed.refused [ None ↦ unless_more (handed fed.due fed.left) | Some refusal ↦ Err refusal ]
 
 -- What is kept once that was handed out.
 abbrev pub after : Fed → Result (Option Handed) meant.Refusal → Fed
 after fed (Ok None) = fed
-after fed (Ok (Some h)) = record { left = drop h.taken fed.left; last = take h.taken fed.left; due = h.due; ended = h.ended; refused = None }
+after fed (Ok (Some h)) =
+    record {
+      left = drop h.taken fed.left;
+      last = take h.taken fed.left;
+      due = h.due;
+      ended = h.ended;
+      refused = None;
+    }
 after fed (Err refusal) = record fed { refused = Some refusal }
 
 abbrev pub fed_after : Fed → Fed
@@ -100,12 +115,15 @@ piece_of (made.Frame head body) = FramePiece head.cmd body.now
 -- The version of a header is known, and the header of a frame says the frame's length and checksum.
 abbrev pub UnitFits : Unit → Type 0
 UnitFits (made.Head head) = is_version head.version ≡ true
-UnitFits (made.Frame head body) = (head.len ≡ length body.now) × ((head.len ≤ greatest_body) × (head.crc ≡ frame_checksum (length body.now) head.cmd body.now))
+UnitFits (made.Frame head body) =
+    (head.len ≡ length body.now)
+    × ((head.len ≤ greatest_body) × (head.crc ≡ frame_checksum (length body.now) head.cmd body.now))
 
 -- The answer is exactly what is handed out next.
 abbrev pub Hands : Result (Option Handed) meant.Refusal → Result (Option Unit) Refusal → Type 0
 Hands next (Ok None) = next ≡ Ok None
-Hands next (Ok (Some unit)) = (h : Handed) × ((next ≡ Ok (Some h)) × ((h.piece ≡ piece_of unit) × UnitFits unit))
+Hands next (Ok (Some unit)) =
+    (h : Handed) × ((next ≡ Ok (Some h)) × ((h.piece ≡ piece_of unit) × UnitFits unit))
 Hands next (Err refusal) = next ≡ Err (refusal_of refusal)
 
 -- What a feed has gone past, whose bytes it has as the last ones.
@@ -115,11 +133,17 @@ passed_piece fed (passed.Frame head version) = FramePiece head.cmd (drop frame_h
 
 abbrev pub PassedFits : Fed → Passed → Type 0
 PassedFits fed (passed.Head head) = is_version head.version ≡ true
-PassedFits fed (passed.Frame head version) = (length fed.last ≡ frame_header_len + head.len) × ((head.len ≤ greatest_body) × (head.crc ≡ frame_checksum head.len head.cmd (drop frame_header_len fed.last)))
+PassedFits fed (passed.Frame head version) =
+    (length fed.last ≡ frame_header_len + head.len)
+    × ((head.len ≤ greatest_body)
+    × (head.crc ≡ frame_checksum head.len head.cmd (drop frame_header_len fed.last)))
 
-abbrev pub Passes : Fed → Result (Option Handed) meant.Refusal → Result (Option Passed) Refusal → Type 0
+abbrev pub Passes : Fed → Result (Option Handed) meant.Refusal → Result (Option Passed) Refusal
+    → Type 0
 Passes fed next (Ok None) = next ≡ Ok None
-Passes fed next (Ok (Some unit)) = (h : Handed) × ((next ≡ Ok (Some h)) × ((h.piece ≡ passed_piece fed unit) × PassedFits fed unit))
+Passes fed next (Ok (Some unit)) =
+    (h : Handed)
+    × ((next ≡ Ok (Some h)) × ((h.piece ≡ passed_piece fed unit) × PassedFits fed unit))
 Passes fed next (Err refusal) = next ≡ Err (refusal_of refusal)
 
 -- What was due where a unit was gone past: the header of a stream, or a frame of a stream of the

@@ -17,16 +17,22 @@ pub record Head : Type 0 where
 unfoldable pub head_at : List ℕ → Result Head Refusal
 head_at bytes = do
   refuse_if (nat_lt greatest_body (number32 bytes)) (LongCommand (number32 bytes))
-  Ok (record { len = number32 bytes; number = number16 (drop 4 bytes); stored = number32 (drop 6 bytes) })
+  Ok (record {
+    len = number32 bytes;
+    number = number16 (drop 4 bytes);
+    stored = number32 (drop 6 bytes);
+  })
 
 -- The body has the checksum of its header.
 unfoldable pub checksum_holds : Head → List ℕ → Result (Unit {0}) Refusal
 checksum_holds head body =
-    require (head.stored == frame_checksum head.len head.number body) (BadChecksum head.stored (frame_checksum head.len head.number body))
+    require (head.stored == frame_checksum head.len head.number body)
+    (BadChecksum head.stored (frame_checksum head.len head.number body))
 
 -- A header's ten bytes.
 unfoldable pub head_bytes : Head → List ℕ
-head_bytes head = to_le_bytes w32 head.len ++ to_le_bytes w16 head.number ++ to_le_bytes w32 head.stored
+head_bytes head =
+    to_le_bytes w32 head.len ++ to_le_bytes w16 head.number ++ to_le_bytes w32 head.stored
 
 -- The room that a header is written into once its frame is whole.
 abbrev pub head_room : List ℕ

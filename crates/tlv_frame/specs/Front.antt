@@ -8,7 +8,10 @@ use Rattle.send_model.specs.Reading.{number16, attribute_number, attribute_end, 
 
 -- It is of a known number, and whole.
 abbrev pub front_lawful : ℕ → List ℕ → Bool
-front_lawful version body = nat_le 2 (length body) && nat_lt 0 (number16 body) && nat_le (number16 body) (last_attribute version) && nat_le (attribute_end version body) (length body)
+front_lawful version body =
+    nat_le 2 (length body) && nat_lt 0 (number16 body)
+    && nat_le (number16 body) (last_attribute version)
+    && nat_le (attribute_end version body) (length body)
 
 unfoldable pub front_at : ℕ → List ℕ → Result Attribute Refusal
 front_at version body = do

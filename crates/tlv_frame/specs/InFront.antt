@@ -23,7 +23,12 @@ FindsHead left (Err refusal) = unless_more (stream_version left) ≡ Err (refusa
 pub record IsFrame (left : List ℕ) (head : FrameHead) : Type 0 where
   pub whole : 10 + head.len ≤ length left
   pub short : head.len ≤ greatest_body
-  pub frame : frame_at left ≡ Ok (record { number = head.cmd; body = take head.len (drop 10 left); rest = drop head.len (drop 10 left) })
+  pub frame : frame_at left
+      ≡ Ok (record {
+        number = head.cmd;
+        body = take head.len (drop 10 left);
+        rest = drop head.len (drop 10 left);
+      })
   pub sum : head.crc ≡ frame_checksum head.len head.cmd (take head.len (drop 10 left))
 
 abbrev pub FindsFrame : List ℕ → Result (Option FrameHead) Refusal → Type 0

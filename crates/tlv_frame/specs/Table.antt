@@ -42,7 +42,8 @@ pub record StandsFor (table : Table) (attributes : List Attribute) : Type 0 wher
 
 -- The answer is a table that stands for the attributes that are read, or the refusal of these.
 abbrev pub ReadsTable : Result Table Refusal → Result (List Attribute) meant.Refusal → Type 0
-ReadsTable (Ok table) read = (attributes : List Attribute) × (read ≡ Ok attributes) × StandsFor table attributes
+ReadsTable (Ok table) read =
+    (attributes : List Attribute) × (read ≡ Ok attributes) × StandsFor table attributes
 ReadsTable (Err refusal) read = read ≡ Err (refusal_of refusal)
 
 -- A table of no attributes.
@@ -51,9 +52,11 @@ no_attributes version = record { version = version; slots = replicate 32 None }
 
 -- A table of this version stands for the attributes that are read, or it has none and the answer is
 -- the refusal of these.
-abbrev pub TakesBody : (version : ℕ) → Table → Result ⊤ Refusal → Result (List Attribute) meant.Refusal → Type 0
+abbrev pub TakesBody : (version : ℕ) → Table → Result ⊤ Refusal
+    → Result (List Attribute) meant.Refusal → Type 0
 TakesBody version table (Ok done) read = (table.version ≡ version) × ReadsTable (Ok table) read
-TakesBody version table (Err refusal) read = (table ≡ no_attributes version) × ReadsTable (Err refusal) read
+TakesBody version table (Err refusal) read =
+    (table ≡ no_attributes version) × ReadsTable (Err refusal) read
 
 -- ---- slots as the code has them
 
@@ -63,7 +66,9 @@ absent = record { place = 0; len = 0 }
 
 -- A slot as the definitions see it.
 abbrev pub slot_in : List ℕ → made.Slot → Option Slot
-slot_in body slot = if slot.place == 0 then None else Some (record { place = slot.place; bytes = take slot.len (drop slot.place body) })
+slot_in body slot =
+    if slot.place == 0 then None else Some
+    (record { place = slot.place; bytes = take slot.len (drop slot.place body) })
 
 -- The bytes of all slots stand in the body.
 abbrev pub AreIn : List ℕ → List made.Slot → Type 0
@@ -81,6 +86,9 @@ pub record IsWhole (version : ℕ) (slots : List (Option Slot)) : Type 0 where
   pub short : (kind : ℕ) → IsShort version kind (slot_at slots kind)
 
 -- Slots are those of the attributes that are read in a body, or the answer is the refusal of these.
-abbrev pub FillsSlots : (version : ℕ) (body : List ℕ) → List made.Slot → Result ⊤ Refusal → Result (List Attribute) meant.Refusal → Type 0
-FillsSlots version body slots (Ok done) read = IsWhole version (map (slot_in body) slots) × AreIn body slots × ReadsTable (Ok (record { version = version; slots = map (slot_in body) slots })) read
+abbrev pub FillsSlots : (version : ℕ) (body : List ℕ) → List made.Slot → Result ⊤ Refusal
+    → Result (List Attribute) meant.Refusal → Type 0
+FillsSlots version body slots (Ok done) read =
+    IsWhole version (map (slot_in body) slots) × AreIn body slots
+    × ReadsTable (Ok (record { version = version; slots = map (slot_in body) slots })) read
 FillsSlots version body slots (Err refusal) read = ReadsTable (Err refusal) read

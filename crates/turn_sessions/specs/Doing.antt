@@ -86,10 +86,14 @@ OutcomeReason (ended.Refused verdict) unwritten = ⊥
 OutcomeReason (ended.TooMuch sum) unwritten = ⊥
 OutcomeReason (ended.InputChanged file place) unwritten = ⊥
 
-abbrev pub StopReason : Received → (most gate : ℕ) (events done : List Event) (unwritten : List ℕ) → Type 0
+abbrev pub StopReason : Received → (most gate : ℕ) (events done : List Event) (unwritten : List ℕ)
+    → Type 0
 StopReason (how.Files outcome) most gate events done unwritten = OutcomeReason outcome unwritten
 StopReason how.StoreFault most gate events done unwritten = ⊤
-StopReason (how.LogFull end wanted limit) most gate events done unwritten = (unwritten ≡ []) × (fitting most gate events ≡ record { events = done; full = Some (dues.LogFull end wanted limit) })
+StopReason (how.LogFull end wanted limit) most gate events done unwritten =
+    (unwritten ≡ [])
+    × (fitting most gate events
+    ≡ record { events = done; full = Some (dues.LogFull end wanted limit) })
 
 -- What turns work on: the disk, the store that is there, and what was written, where the output
 -- tells.
@@ -113,7 +117,9 @@ run_of ghosts old new = record { ghosts = ghosts; old = old; new = new }
 module _ {D : Type 0} (run : Run D) where
   -- What holds of a disk that tells, which had these groups.
   abbrev pub OfGroups : (Header → List Group → Type 0) → Type 0
-  OfGroups P = run.ghosts.tells → (header : Header) (groups : List Group) → Holds header groups run.old.store (run.ghosts.seen run.old.disk) (run.ghosts.pending run.old.disk) → P header groups
+  OfGroups P = run.ghosts.tells → (header : Header) (groups : List Group)
+      → Holds header groups run.old.store (run.ghosts.seen run.old.disk)
+      (run.ghosts.pending run.old.disk) → P header groups
 
   -- The events were done: their lines stand behind what was written before, and their groups behind
   -- those that there were; at each moment a crash left the first of these.
@@ -122,8 +128,11 @@ module _ {D : Type 0} (run : Run D) where
     pub room : (fitting run.old.store.log.limit run.old.store.log.gate events).full ≡ None
     pub gate : run.new.store.log.gate ≡ gate_after run.old.store.log.gate events
     pub limit : run.new.store.log.limit ≡ run.old.store.log.limit
-    pub disk : OfGroups (λ header groups. Holds header (groups ++ turn_groups events) run.new.store (run.ghosts.seen run.new.disk) (run.ghosts.pending run.new.disk)
-        × LeavesOnly run.ghosts.moment run.ghosts.left_since run.old.disk run.new.disk (HasFront header groups (turn_groups events)))
+    pub disk : OfGroups
+        (λ header groups. Holds header (groups ++ turn_groups events) run.new.store
+        (run.ghosts.seen run.new.disk) (run.ghosts.pending run.new.disk)
+        × LeavesOnly run.ghosts.moment run.ghosts.left_since run.old.disk run.new.disk
+        (HasFront header groups (turn_groups events)))
 
   -- They stopped in these events: the first ones are done, and their lines, or a front part of
   -- them, were written.
@@ -136,6 +145,11 @@ module _ {D : Type 0} (run : Run D) where
     pub printed : lines_of done ≡ lines ++ unwritten
     pub wrote : Appends run.old.out run.new.out lines
     pub reason : StopReason why run.old.store.log.limit run.old.store.log.gate events done unwritten
-    pub disk : OfGroups (λ header groups. EndLeaves why (Holds header (groups ++ turn_groups done) run.new.store (run.ghosts.seen run.new.disk) (run.ghosts.pending run.new.disk))
-        ((image : List ℕ) → IsImage (run.ghosts.pending run.new.disk) image → HasFront header (groups ++ turn_groups done) (turn_groups (reached why more)) image)
-        × LeavesOnly run.ghosts.moment run.ghosts.left_since run.old.disk run.new.disk (HasFront header groups (turn_groups events)))
+    pub disk : OfGroups
+        (λ header groups. EndLeaves why
+        (Holds header (groups ++ turn_groups done) run.new.store (run.ghosts.seen run.new.disk)
+        (run.ghosts.pending run.new.disk))
+        ((image : List ℕ) → IsImage (run.ghosts.pending run.new.disk) image
+        → HasFront header (groups ++ turn_groups done) (turn_groups (reached why more)) image)
+        × LeavesOnly run.ghosts.moment run.ghosts.left_since run.old.disk run.new.disk
+        (HasFront header groups (turn_groups events)))

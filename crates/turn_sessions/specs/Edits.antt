@@ -28,21 +28,30 @@ pub record IsFront (version : ℕ) (bytes : List ℕ) (c : Command) (more : List
   pub is : bytes ≡ canonical version c ++ more
 
 -- The edit comes next, and is not refused.
-abbrev pub IsTaken : ℕ → StoreState → Part (Option Place) → Command → Subvolume (Option Place) → Type 0
-IsTaken version store part c middle = edit_part None (as_runs (data_place version store.log.size (attributes_of c)) (bytes_of c)) store.core part c ≡ Ok middle
+abbrev pub IsTaken : ℕ → StoreState → Part (Option Place) → Command → Subvolume (Option Place)
+    → Type 0
+IsTaken version store part c middle =
+    edit_part None
+    (as_runs (data_place version store.log.size (attributes_of c)) (bytes_of c)) store.core part c
+    ≡ Ok middle
 
 -- Edits that come next make one part of another: none of them is refused.
-abbrev pub AreMade : ℕ → StoreState → Part (Option Place) → List Command → State (Option Place) → Type 0
-AreMade version store part commands end = edits_made None as_runs version store.log.size (open_state store.core part) commands ≡ Some end
+abbrev pub AreMade : ℕ → StoreState → Part (Option Place) → List Command → State (Option Place)
+    → Type 0
+AreMade version store part commands end =
+    edits_made None as_runs version store.log.size (open_state store.core part) commands ≡ Some end
 
 -- The edits of an unfinished entry complete it: their group makes one store of another.
 abbrev pub IsCompletedBy : ℕ → List ℕ → StoreState → List Command → Store (Option Place) → Type 0
-IsCompletedBy version uuid store commands new = made None as_runs (body_at store.log.gate) store.core (Body uuid version commands) ≡ Some new
+IsCompletedBy version uuid store commands new =
+    made None as_runs (body_at store.log.gate) store.core (Body uuid version commands) ≡ Some new
 
 -- What their frames ask for, one after the other.
 abbrev pub frame_asks : ℕ → ℕ → List Command → List Asked
 frame_asks version place [] = []
-frame_asks version place (c ∷ commands) = record { place = place; wanted = length (canonical version c) } ∷ frame_asks version (place + length (canonical version c)) commands
+frame_asks version place (c ∷ commands) =
+    record { place = place; wanted = length (canonical version c) }
+    ∷ frame_asks version (place + length (canonical version c)) commands
 
 -- What all their group asks for.
 abbrev pub body_asks : ℕ → ℕ → List Command → List Asked
@@ -59,7 +68,8 @@ IfStopped (Err (stop.Log why)) store P = store.is_live ≡ false
 -- Where the next gate stands behind it.
 abbrev pub frames_end : ℕ → ℕ → List Command → ℕ
 frames_end version place [] = place
-frames_end version place (c ∷ commands) = frames_end version (place + length (canonical version c)) commands
+frames_end version place (c ∷ commands) =
+    frames_end version (place + length (canonical version c)) commands
 
 abbrev pub body_end : ℕ → ℕ → List Command → ℕ
 body_end version gate commands = frames_end version (gate + 27) commands + 4

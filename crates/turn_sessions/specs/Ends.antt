@@ -70,12 +70,15 @@ module _ (task : ToTake) where
 
   -- The answer is due.
   abbrev pub IsDue : Due → List Event → Type 0
-  IsDue due first = ((interleave_end task.room task.base task.turns).due ≡ due) × (first ≡ due_events)
+  IsDue due first =
+      ((interleave_end task.room task.base task.turns).due ≡ due) × (first ≡ due_events)
 
   abbrev pub OutcomeIs : Outcome → List Event → (unwritten : List ℕ) → Type 0
   OutcomeIs ended.Done first unwritten = IsDue (Ends DoneWhole) first × (unwritten ≡ [])
-  OutcomeIs (ended.Refused verdict) first unwritten = IsDue (Ends (RefusedAt (verdict_meant verdict))) first × (unwritten ≡ [])
-  OutcomeIs (ended.InputTooLong file) first unwritten = IsDue (Ends (TooLong file)) first × (unwritten ≡ [])
+  OutcomeIs (ended.Refused verdict) first unwritten =
+      IsDue (Ends (RefusedAt (verdict_meant verdict))) first × (unwritten ≡ [])
+  OutcomeIs (ended.InputTooLong file) first unwritten =
+      IsDue (Ends (TooLong file)) first × (unwritten ≡ [])
   OutcomeIs ended.InputFault first unwritten = ⊤
   OutcomeIs ended.NoMemory first unwritten = ⊤
   OutcomeIs ended.OutputFault first unwritten = 0 < length unwritten
@@ -86,20 +89,25 @@ module _ (task : ToTake) where
   abbrev pub AnswerIs : Received → List Event → (unwritten : List ℕ) → Type 0
   AnswerIs (how.Files outcome) first unwritten = OutcomeIs outcome first unwritten
   AnswerIs how.StoreFault first unwritten = ⊤
-  AnswerIs (how.LogFull end wanted limit) first unwritten = IsDue (dues.LogFull end wanted limit) first × (unwritten ≡ [])
+  AnswerIs (how.LogFull end wanted limit) first unwritten =
+      IsDue (dues.LogFull end wanted limit) first × (unwritten ≡ [])
 
   -- Some first events were done, and H holds of their groups: these make a store that is one after
   -- some first turns, or after these and the completion of the next one, in which the parts are
   -- complete as if they had been received one after the other; and each part is of whose line
   -- something was written.
-  pub record AreDone (why : Received) (core : Store (Option Place)) (written : List ℕ) (H : List Group → Type 0) : Type 0 where
+  pub record AreDone (why : Received) (core : Store (Option Place)) (written : List ℕ)
+      (H : List Group → Type 0) : Type 0 where
     pub first : List Event
     pub more : List Event
     pub all : all_events ≡ first ++ more
     pub has : H (turn_groups first)
     pub now : Store ℕ
     pub made : (place : ℕ) → made_all 0 as_bytes place task.base (turn_groups first) ≡ Some now
-    pub state : let sessions = sessions_of task.turns.files task.turns.guards task.turns.shares in IsTurnState 0 byte_cells (at_entry task.base sessions) (all_turns task.turns.schedule sessions) now
+    pub state : let sessions =
+        sessions_of task.turns.files task.turns.guards task.turns.shares in
+        IsTurnState 0 byte_cells (at_entry task.base sessions)
+        (all_turns task.turns.schedule sessions) now
     pub order : AreOneByOne 0 byte_cells task.base first now
     pub unwritten : List ℕ
     pub printed : lines_of first ≡ written ++ unwritten

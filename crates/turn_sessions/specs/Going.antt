@@ -31,7 +31,8 @@ use Rattle.turn_sessions.specs.Turning.{HasVersion, IfTooLong, bytes_left}
 
 -- A session's reader is that of its file, which has this number and this name; and the bytes that
 -- it was given are the file's.
-pub record IsReading {G : Type 0} (told : Option (List (List ℕ × List ℕ))) (number : ℕ) (name : List ℕ) (session : Session G) : Type 0 where
+pub record IsReading {G : Type 0} (told : Option (List (List ℕ × List ℕ))) (number : ℕ)
+    (name : List ℕ) (session : Session G) : Type 0 where
   pub file : session.file ≡ number
   pub own : session.reader.file ≡ number
   pub named : session.reader.name ≡ name
@@ -40,14 +41,17 @@ pub record IsReading {G : Type 0} (told : Option (List (List ℕ × List ℕ))) 
   pub ahead : IfTold told name (λ bytes. session.is_over ≡ false → HasAhead session.reader bytes)
 
 -- So it is of all of them, the first of which has this number.
-abbrev pub AreReading : {G : Type 0} → Option (List (List ℕ × List ℕ)) → ℕ → List (List ℕ) → List (Session G) → Type 0
+abbrev pub AreReading : {G : Type 0} → Option (List (List ℕ × List ℕ)) → ℕ → List (List ℕ)
+    → List (Session G) → Type 0
 AreReading told number [] [] = ⊤
 AreReading told number [] (session ∷ sessions) = ⊥
 AreReading told number (name ∷ names) [] = ⊥
-AreReading told number (name ∷ names) (session ∷ sessions) = IsReading told number name session × AreReading told (number + 1) names sessions
+AreReading told number (name ∷ names) (session ∷ sessions) =
+    IsReading told number name session × AreReading told (number + 1) names sessions
 
 -- A session before its first turn.
-pub record IsNew {G : Type 0} (number : ℕ) (name : List ℕ) (guards : G) (session : Session G) : Type 0 where
+pub record IsNew {G : Type 0} (number : ℕ) (name : List ℕ) (guards : G)
+    (session : Session G) : Type 0 where
   pub file : session.file ≡ number
   pub reader : session.reader ≡ at_start number name
   pub own : session.guards ≡ guards
@@ -57,14 +61,16 @@ pub record IsNew {G : Type 0} (number : ℕ) (name : List ℕ) (guards : G) (ses
 -- So are all of them, one for each file, with its own guards.
 abbrev pub AreNew : {G : Type 0} → ℕ → List (List ℕ) → List G → List (Session G) → Type 0
 AreNew number [] [] [] = ⊤
-AreNew number (name ∷ names) (own ∷ guards) (session ∷ sessions) = IsNew number name own session × AreNew (number + 1) names guards sessions
+AreNew number (name ∷ names) (own ∷ guards) (session ∷ sessions) =
+    IsNew number name own session × AreNew (number + 1) names guards sessions
 AreNew number [] [] (session ∷ sessions) = ⊥
 AreNew number [] (own ∷ guards) sessions = ⊥
 AreNew number (name ∷ names) [] sessions = ⊥
 AreNew number (name ∷ names) (own ∷ guards) [] = ⊥
 
 -- After some turns the sessions, and the store with their open parts, are those of the definitions.
-pub record AreTaking {G : Type 0} (kept : G → List Guard) (sessions : List (Session G)) (store : Store Blank) (w : Turns Blank) : Type 0 where
+pub record AreTaking {G : Type 0} (kept : G → List Guard) (sessions : List (Session G))
+    (store : Store Blank) (w : Turns Blank) : Type 0 where
   pub store_is : store ≡ w.store
   pub sessions_are : AreSessions kept w.sessions sessions
   pub base : Store Blank
@@ -75,19 +81,24 @@ pub record AreTaking {G : Type 0} (kept : G → List Guard) (sessions : List (Se
 -- What was read of bytes so far, and what is left to a reader.
 pub record HasRead (number : ℕ) (reader : Reader) (bytes : List ℕ) : Type 0 where
   pub done : List Item
-  pub read : reads number bytes ≡ record { items = done ++ (left reader bytes).items; end = (left reader bytes).end }
+  pub read : reads number bytes
+      ≡ record { items = done ++ (left reader bytes).items; end = (left reader bytes).end }
   pub reached : reader.offset ≤ length bytes
 
 -- A session that is not over has to read what is left of its file, up to the limit of its length.
-pub record HasLeft (number : ℕ) (file : List ℕ) (s : meant.Session Blank) (reader : Reader) : Type 0 where
+pub record HasLeft (number : ℕ) (file : List ℕ) (s : meant.Session Blank)
+    (reader : Reader) : Type 0 where
   pub items : s.items ≡ (left reader (bytes_read number file)).items
   pub end : s.end ≡ (left reader (bytes_read number file)).end
   pub whole : HasRead number reader file
   pub front : HasRead number reader (take limit file)
 
-abbrev pub HaveLeft : {G : Type 0} → ℕ → List (List ℕ) → List (meant.Session Blank) → List (Session G) → Type 0
+abbrev pub HaveLeft : {G : Type 0} → ℕ → List (List ℕ) → List (meant.Session Blank)
+    → List (Session G) → Type 0
 HaveLeft number [] [] [] = ⊤
-HaveLeft number (file ∷ files) (s ∷ ss) (session ∷ sessions) = (session.is_over ≡ false → HasLeft number file s session.reader) × HaveLeft (number + 1) files ss sessions
+HaveLeft number (file ∷ files) (s ∷ ss) (session ∷ sessions) =
+    (session.is_over ≡ false → HasLeft number file s session.reader)
+    × HaveLeft (number + 1) files ss sessions
 HaveLeft number [] [] (session ∷ sessions) = ⊥
 HaveLeft number [] (s ∷ ss) sessions = ⊥
 HaveLeft number (file ∷ files) [] sessions = ⊥
@@ -102,17 +113,23 @@ AreShorter (f ∷ first) (s ∷ ss) = (length s.items ≤ length f.items) × Are
 
 -- The session of a number, if it is not over, has fewer items to read than so many.
 abbrev pub HasFewer : Turns Blank → ℕ → ℕ → Type 0
-HasFewer w n m = (s : meant.Session Blank) → slice_get w.sessions n ≡ Some s → s.is_over ≡ false → length s.items < m
+HasFewer w n m =
+    (s : meant.Session Blank) → slice_get w.sessions n ≡ Some s → s.is_over ≡ false
+    → length s.items < m
 
 -- The session at a place, if it was not over, has less to read.
 abbrev pub FewerLeft : {G : Type 0} → ℕ → List (Session G) → List (Session G) → Type 0
-FewerLeft place old new = (session : Session _) → slice_get old place ≡ Some session → session.is_over ≡ false
-    → (after : Session _) × (slice_get new place ≡ Some after) × (bytes_left after < bytes_left session)
+FewerLeft place old new =
+    (session : Session _) → slice_get old place ≡ Some session → session.is_over ≡ false
+    → (after : Session _) × (slice_get new place ≡ Some after)
+    × (bytes_left after < bytes_left session)
 
 -- Where turns stopped with an answer that is due, that is what is due.
 abbrev pub DueIs : Received → TurnsEnd → (done : List Event) → (unwritten : List ℕ) → Type 0
-DueIs (how.Files (ended.InputTooLong file)) end done unwritten = (end ≡ record { due = Ends (files_due.TooLong file); events = done }) × (unwritten ≡ [])
-DueIs (how.LogFull place wanted most) end done unwritten = (end ≡ record { due = dues.LogFull place wanted most; events = done }) × (unwritten ≡ [])
+DueIs (how.Files (ended.InputTooLong file)) end done unwritten =
+    (end ≡ record { due = Ends (files_due.TooLong file); events = done }) × (unwritten ≡ [])
+DueIs (how.LogFull place wanted most) end done unwritten =
+    (end ≡ record { due = dues.LogFull place wanted most; events = done }) × (unwritten ≡ [])
 DueIs (how.Files ended.InputFault) end done unwritten = ⊤
 DueIs (how.Files ended.OutputFault) end done unwritten = ⊤
 DueIs (how.Files ended.NoMemory) end done unwritten = ⊤
@@ -131,18 +148,23 @@ pub record Course : Type 0 where
   pub end : TurnsEnd
   pub last : Turns Blank
 
-abbrev pub course_of : List (List ℕ) → (taken : Turns Blank) → (rest : List ℕ) → TurnsEnd → (last : Turns Blank) → Course
-course_of files taken rest end last = record { files = files; taken = taken; rest = rest; end = end; last = last }
+abbrev pub course_of : List (List ℕ) → (taken : Turns Blank) → (rest : List ℕ) → TurnsEnd
+    → (last : Turns Blank) → Course
+course_of files taken rest end last =
+    record { files = files; taken = taken; rest = rest; end = end; last = last }
 
 module _ {D : Type 0} (run : Run D) where
   -- Some turns were taken, from a store with the subvolumes that there were at first. The verdict
   -- is that of the session that was refused first, if one was.
-  pub record IsGoing {G : Type 0} (kept : G → List Guard) (course : Course) (refused : Option Verdict) (sessions : List (Session G)) : Type 0 where
+  pub record IsGoing {G : Type 0} (kept : G → List Guard) (course : Course)
+      (refused : Option Verdict) (sessions : List (Session G)) : Type 0 where
     pub taking : AreTaking kept sessions (blank run.new.store.core) course.taken
     pub from : taking.base ≡ blank run.old.store.core
     pub refused_is : course.taken.refused ≡ option_map verdict_meant refused
     pub have_left : HaveLeft 1 course.files course.taken.sessions sessions
-    pub ends : course.end ≡ turns_end tt blank_cells (room_of run.old.store.log.limit run.new.store.log.gate) (which_long 1 course.files) course.taken course.rest
+    pub ends : course.end
+        ≡ turns_end tt blank_cells (room_of run.old.store.log.limit run.new.store.log.gate)
+        (which_long 1 course.files) course.taken course.rest
     pub runs : course.last ≡ after_turns tt blank_cells course.taken course.rest
     pub done : HasDone run course.taken.events
 
@@ -151,8 +173,11 @@ module _ {D : Type 0} (run : Run D) where
   pub record HasEnded (why : Received) (end : TurnsEnd) (last : Turns Blank) : Type 0 where
     pub stopped : HasStopped run why last.events
     pub due : DueIs why end stopped.done stopped.unwritten
-    pub made : IfTooLong why (made_all tt blank_put 0 (blank run.old.store.core) (turn_groups stopped.done) ≡ Some (blank run.new.store.core))
+    pub made : IfTooLong why
+        (made_all tt blank_put 0 (blank run.old.store.core) (turn_groups stopped.done)
+        ≡ Some (blank run.new.store.core))
 
-  abbrev pub GoingSays : {G : Type 0} → (G → List Guard) → Course → List (Session G) → Result (Option Verdict) Received → Type 0
+  abbrev pub GoingSays : {G : Type 0} → (G → List Guard) → Course → List (Session G)
+      → Result (Option Verdict) Received → Type 0
   GoingSays kept course sessions (Ok refused) = IsGoing kept course refused sessions
   GoingSays kept course sessions (Err why) = HasEnded why course.end course.last

@@ -8,6 +8,8 @@ use Rattle.store_model.specs.TurnAnswers.{IsOnTurnWay}
 
 -- What it could leave before, with nothing written; or there was a store, and the turns are on the
 -- way, with these lines written.
-abbrev pub LeftByTurns : (early : Pending) → (before : List ℕ) → InTurns → (written image : List ℕ) → Type 0
+abbrev pub LeftByTurns : (early : Pending) → (before : List ℕ) → InTurns → (written image : List ℕ)
+    → Type 0
 LeftByTurns early before turns written image =
-    (IsImage early image × (written ≡ [])) ⊎ ByImage before (λ s. IsOnTurnWay turns before s written image) ⊥
+    (IsImage early image × (written ≡ []))
+    ⊎ ByImage before (λ s. IsOnTurnWay turns before s written image) ⊥

@@ -19,7 +19,10 @@ pub data Next : Type 0 where
 abbrev pub WasLeft : Reader → Reader → Next → List ℕ → Type 0
 WasLeft old new (Command item) bytes = GoesOn old new item bytes
 WasLeft old new AtEnd bytes = HasEnded old bytes
-WasLeft old new (AtFault verdict) bytes = IsRefused (λ refusal bytes. left old bytes ≡ record { items = []; end = Faulty verdict }) verdict.refusal bytes
+WasLeft old new (AtFault verdict) bytes =
+    IsRefused
+    (λ refusal bytes. left old bytes
+    ≡ record { items = []; end = Faulty verdict }) verdict.refusal bytes
 WasLeft old new AtLimit bytes = IsLongAt old.offset (OnlyEnds old) bytes
 WasLeft old new Nothing bytes = ⊤
 

@@ -50,7 +50,10 @@ AreParts (Some r) (Some current) = IsPart r current
 
 -- It can be completed over a store: its group makes of the store what its completion makes.
 abbrev pub IsHeld : Store Blank → Receiving Blank → Type 0
-IsHeld store r = (place : ℕ) → made tt blank_put place store (group_of_event (Completes r.taken)).content ≡ Some (with_contents r.part.key.uuid r.part.subvolume store)
+IsHeld store r =
+    (place : ℕ)
+    → made tt blank_put place store (group_of_event (Completes r.taken)).content
+    ≡ Some (with_contents r.part.key.uuid r.part.subvolume store)
 
 abbrev pub AreHeld : Store Blank → Option (Receiving Blank) → Type 0
 AreHeld store None = ⊤
@@ -58,16 +61,20 @@ AreHeld store (Some r) = IsHeld store r
 
 -- A session with this file, reader, guards and part, which is over or not.
 abbrev pub session_with : {G : Type 0} → ℕ → Reader → G → Option OpenPart → Bool → Session G
-session_with file reader guards current is_over = record { file = file; reader = reader; guards = guards; current = current; is_over = is_over }
+session_with file reader guards current is_over =
+    record { file = file; reader = reader; guards = guards; current = current; is_over = is_over }
 
 -- A session of the definitions is this one, but for what it has not read yet and what cells carry.
-pub record IsSession {G : Type 0} (kept : G → List Guard) (s : meant.Session Blank) (session : Session G) : Type 0 where
+pub record IsSession {G : Type 0} (kept : G → List Guard) (s : meant.Session Blank)
+    (session : Session G) : Type 0 where
   pub guards : s.guards ≡ kept session.guards
   pub over : s.is_over ≡ session.is_over
   pub part : AreParts (held_of s) session.current
 
-abbrev pub AreSessions : {G : Type 0} → (G → List Guard) → List (meant.Session Blank) → List (Session G) → Type 0
+abbrev pub AreSessions : {G : Type 0} → (G → List Guard) → List (meant.Session Blank)
+    → List (Session G) → Type 0
 AreSessions kept [] [] = ⊤
 AreSessions kept [] (session ∷ sessions) = ⊥
 AreSessions kept (s ∷ ss) [] = ⊥
-AreSessions kept (s ∷ ss) (session ∷ sessions) = IsSession kept s session × AreSessions kept ss sessions
+AreSessions kept (s ∷ ss) (session ∷ sessions) =
+    IsSession kept s session × AreSessions kept ss sessions

@@ -53,17 +53,21 @@ HasVersionOf version (Some current) = current.version ≡ version
 
 -- The step of an item over cells that carry nothing, and its events.
 abbrev pub step_at : Store Blank → Item → Option (Receiving Blank) → Stepped Blank
-step_at store item p = step tt (blank_cells item) (record { store = store; part = part_of p }) item.command
+step_at store item p =
+    step tt (blank_cells item) (record { store = store; part = part_of p }) item.command
 
 abbrev pub events_at : Store Blank → Item → Option (Receiving Blank) → List Event
-events_at store item p = completions item.command p ++ beginnings item (step_at store item p).refusal
+events_at store item p =
+    completions item.command p ++ beginnings item (step_at store item p).refusal
 
 -- An edit is taken or refused.
-pub record IsEdited (item : Item) (old_part : Option (Receiving Blank)) (after : Stepped Blank) (current : Option OpenPart) (refusal : Option Refusal) : Type 0 where
+pub record IsEdited (item : Item) (old_part : Option (Receiving Blank)) (after : Stepped Blank)
+    (current : Option OpenPart) (refusal : Option Refusal) : Type 0 where
   pub refused : after.refusal ≡ option_map refusal_of refusal
   pub part : IfTaken refusal (AreParts (receiving_after item old_part after.state.part) current)
 
-abbrev pub EditSays : Item → Option (Receiving Blank) → Stepped Blank → Option OpenPart → Result (Option Refusal) Received → Type 0
+abbrev pub EditSays : Item → Option (Receiving Blank) → Stepped Blank → Option OpenPart
+    → Result (Option Refusal) Received → Type 0
 EditSays item old_part after current (Ok refusal) = IsEdited item old_part after current refusal
 EditSays item old_part after current (Err why) = ⊤
 
@@ -110,7 +114,8 @@ IsCommand AtLimit = ⊥
 IsCommand Nothing = ⊥
 
 abbrev pub StopsAt : {G : Type 0} → Received → Next → Session G → Type 0
-StopsAt (how.Files (ended.InputTooLong file)) next before = (next ≡ AtLimit) × (file ≡ before.file) × (before.is_over ≡ false)
+StopsAt (how.Files (ended.InputTooLong file)) next before =
+    (next ≡ AtLimit) × (file ≡ before.file) × (before.is_over ≡ false)
 StopsAt (how.Files ended.InputFault) next before = ⊤
 StopsAt (how.Files ended.OutputFault) next before = ⊤
 StopsAt (how.Files ended.NoMemory) next before = ⊤
@@ -142,10 +147,12 @@ step_to_do store item p = to_do item p (step_at store item p) (events_at store i
 
 module _ {D : Type 0} (run : Run D) where
   -- A command is taken or refused as a step says, with these events.
-  pub record IsDone (task : ToDo) (current : Option OpenPart) (refusal : Option Refusal) : Type 0 where
+  pub record IsDone (task : ToDo) (current : Option OpenPart)
+      (refusal : Option Refusal) : Type 0 where
     pub refused : task.after.refusal ≡ option_map refusal_of refusal
     pub store : blank run.new.store.core ≡ task.after.state.store
-    pub part : IfTaken refusal (AreParts (receiving_after task.item task.part task.after.state.part) current)
+    pub part : IfTaken refusal
+        (AreParts (receiving_after task.item task.part task.after.state.part) current)
     pub done : HasDone run task.events
 
   abbrev pub ItemSays : ToDo → Option OpenPart → Result (Option Refusal) Received → Type 0
@@ -154,7 +161,8 @@ module _ {D : Type 0} (run : Run D) where
 
   -- A part that was open is complete.
   pub record IsClosed (p : Option (Receiving Blank)) : Type 0 where
-    pub store : blank run.new.store.core ≡ completed (record { store = blank run.old.store.core; part = part_of p })
+    pub store : blank run.new.store.core
+        ≡ completed (record { store = blank run.old.store.core; part = part_of p })
     pub done : HasDone run (closing p)
 
   abbrev pub CloseSays : Option (Receiving Blank) → Result (Unit {0}) Received → Type 0
@@ -162,27 +170,35 @@ module _ {D : Type 0} (run : Run D) where
   CloseSays p (Err why) = HasStopped run why (closing p)
 
   -- A command is refused by a guard, and nothing is done; or it does what its step says.
-  abbrev pub LookSays : Item → Option (Receiving Blank) → Option model_refusal → Option OpenPart → Result (Option Refusal) Received → Type 0
-  LookSays item p (Some refusal) current (Ok answer) = (option_map refusal_of answer ≡ Some refusal) × (blank run.new.store.core ≡ blank run.old.store.core) × HasDone run []
+  abbrev pub LookSays : Item → Option (Receiving Blank) → Option model_refusal → Option OpenPart
+      → Result (Option Refusal) Received → Type 0
+  LookSays item p (Some refusal) current (Ok answer) =
+      (option_map refusal_of answer ≡ Some refusal)
+      × (blank run.new.store.core ≡ blank run.old.store.core) × HasDone run []
   LookSays item p (Some refusal) current (Err why) = ⊥
-  LookSays item p None current result = ItemSays (step_to_do (blank run.old.store.core) item p) current result
+  LookSays item p None current result =
+      ItemSays (step_to_do (blank run.old.store.core) item p) current result
 
   -- A turn is that of the definitions.
-  pub record IsTurn {G : Type 0} (kept : G → List Guard) (t : Turn Blank) (session : Session G) (refused : Option Verdict) : Type 0 where
+  pub record IsTurn {G : Type 0} (kept : G → List Guard) (t : Turn Blank) (session : Session G)
+      (refused : Option Verdict) : Type 0 where
     pub refused_is : t.refused ≡ option_map verdict_meant refused
     pub store : blank run.new.store.core ≡ t.store
     pub session_is : IsSession kept t.session session
     pub done : HasDone run t.events
 
-  abbrev pub TurnSays : {G : Type 0} → (G → List Guard) → Turn Blank → Session G → Result (Option Verdict) Received → Type 0
+  abbrev pub TurnSays : {G : Type 0} → (G → List Guard) → Turn Blank → Session G
+      → Result (Option Verdict) Received → Type 0
   TurnSays kept t session (Ok refused) = IsTurn kept t session refused
   TurnSays kept t session (Err why) = HasStopped run why t.events
 
   -- What is read next of the session's file, and what the turn of each session that has this to
   -- read does.
-  pub record TakesTurn {G : Type 0} (kept : G → List Guard) (told : Option (List (List ℕ × List ℕ))) (before after : Session G) (result : Result (Option Verdict) Received) : Type 0 where
+  pub record TakesTurn {G : Type 0} (kept : G → List Guard) (told : Option (List (List ℕ × List ℕ)))
+      (before after : Session G) (result : Result (Option Verdict) Received) : Type 0 where
     pub next : Next
     pub read : IfTold told before.reader.name (WasLeft before.reader after.reader next)
     pub reads : ReadsAs result next before
-    pub says : (s : meant.Session Blank) → IsSession kept s before → AreHeld (blank run.old.store.core) (held_of s) → (s.is_over ≡ false → HasNext s next)
+    pub says : (s : meant.Session Blank) → IsSession kept s before
+        → AreHeld (blank run.old.store.core) (held_of s) → (s.is_over ≡ false → HasNext s next)
         → TurnSays kept (session_turn tt blank_cells (blank run.old.store.core) s) after result
