@@ -2,10 +2,10 @@
 #![tactic(auto)]
 
 #[cfg(test)]
+mod command_tests;
+#[cfg(test)]
 mod drop_tests;
 #[cfg(test)]
 mod images;
-#[cfg(test)]
-mod program_tests;
 #[cfg(test)]
 mod same;
