@@ -1,0 +1,16 @@
+mod StandingExamples
+mod Told
+mod Sources
+mod StandingClones
+mod TaggedBase
+mod SelfHeadline
+mod FilesThere
+mod SelfDues
+mod SelfSpelled
+mod SelfFronts
+mod SelfReadings
+mod LeastStands
+mod Candidates
+mod NewCells
+mod PutCells
+mod HoleStanding

@@ -1,0 +1,4 @@
+pub mod Births
+pub mod Standing
+pub mod Promises
+pub mod Candidates
