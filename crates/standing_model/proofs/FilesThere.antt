@@ -5,15 +5,16 @@ use Rattle.std.proofs.Common.{refl, sym, ap, subst, ◌∙◌, arith, length-app
 use Rattle.std.proofs.Math.Seq.{drop-append_seam}
 use Rattle.send_model.specs.Refusal.{Refusal}
 use Rattle.send_model.specs.Attribute.{IsBytes}
-use Rattle.send_model.specs.Command.{Command, Subvol, Snapshot, Write}
+use Rattle.send_model.specs.Command.{Command, Subvol, Snapshot, Write, Clone}
 use Rattle.send_model.specs.Reading.{Item, Ending, Whole, Faulty, Reading, Front, Due, HeaderDue, CommandDue, due_after, may_end, with_item, go_on, ended, faulty, joined, header_len, stream_version, front_of, reads_from, reads, input_from, input}
 use Rattle.send_model.specs.Receive.{bytes_of}
 use Rattle.send_model.proofs.ElementLaws.{all_both}
 use Rattle.send_model.proofs.Sound.{bytes_drop}
 use Rattle.send_model.proofs.ReadSpelled.{read_was_spelled}
 use Rattle.send_model.proofs.DataPlaces.{data_is_there}
-use Rattle.send_model.specs.Renamed.{with_name, name_for, named_as}
-use Rattle.standing_model.specs.Promises.{file_bytes, IsThere, AreThere, RenamedAreThere}
+use Rattle.send_model.specs.Store.{Key}
+use Rattle.send_model.specs.Overridden.{Override, override_for, command_named, with_parents, command_as, overridden_as}
+use Rattle.standing_model.specs.Promises.{file_bytes, IsThere, AreThere, OverriddenAreThere}
 
 -- In a file of a number: an item's data stand there, and the item has its number.
 record InFile (file : ℕ) (whole : List ℕ) (item : Item) : Type 0 where
@@ -119,17 +120,29 @@ module _ (files : List (List ℕ)) where
   unfolding input
   files_there is = from_there 1 files refl is
 
--- ---- other names for parts
+-- ---- what is said in front of files
 
-same_bytes : (name : List ℕ) (c : Command) → bytes_of (with_name name c) ≡ bytes_of c
-same_bytes name (Subvol uuid ctransid path) = refl
-same_bytes name (Snapshot uuid ctransid path clone_uuid clone_ctransid) = refl
-same_bytes name c = refl
+same_named : (name : Option (List ℕ)) (c : Command) → bytes_of (command_named name c) ≡ bytes_of c
+same_named None c = refl
+same_named (Some name) (Subvol uuid ctransid path) = refl
+same_named (Some name) (Snapshot uuid ctransid path clone_uuid clone_ctransid) = refl
+same_named (Some name) c = refl
 
-one_there : (files : List (List ℕ)) (given : Option (List ℕ)) (item : Item) → IsThere files item → IsThere files (named_as given item)
-one_there files None item there = there
-one_there files (Some name) item there = subst (λ (bytes : List ℕ). take (length bytes) (drop item.data_at (file_bytes files item.file)) ≡ bytes) (sym (same_bytes name item.command)) there
+same_parents : (keys : List Key) (c : Command) → bytes_of (with_parents keys c) ≡ bytes_of c
+same_parents keys (Snapshot uuid ctransid path clone_uuid clone_ctransid) = refl
+same_parents keys (Clone path offset clone_uuid clone_ctransid clone_path clone_offset clone_len) = refl
+same_parents keys c = refl
 
-pub renamed_there : RenamedAreThere
-renamed_there files names [] there = tt
-renamed_there files names (item ∷ items) there = (one_there files (name_for names item.file) item there.0, renamed_there files names items there.1)
+same_bytes : (override : Override) (c : Command) → bytes_of (command_as override c) ≡ bytes_of c
+same_bytes override c = same_parents override.parents (command_named override.name c) ∙ same_named override.name c
+
+one_there : (files : List (List ℕ)) (override : Override) (item : Item) → IsThere files item
+    → IsThere files (overridden_as override item)
+one_there files override item there = subst
+    (λ (bytes : List ℕ). take (length bytes) (drop item.data_at (file_bytes files item.file)) ≡ bytes)
+    (sym (same_bytes override item.command)) there
+
+pub overridden_there : OverriddenAreThere
+overridden_there files overrides [] there = tt
+overridden_there files overrides (item ∷ items) there =
+    (one_there files (override_for overrides item.file) item there.0, overridden_there files overrides items there.1)

@@ -12,7 +12,7 @@ use Rattle.send_model.specs.Outside.{part_uuids, base_of, base, keys_outside, ou
 use Rattle.send_model.specs.Provenance.{is_redirected, redirected_by, literal_in}
 use Rattle.send_model.specs.Headline.{AreComposedBy, IsComposedBy, output_by, IsStoppedBy}
 use Rattle.send_model.specs.Due.{Due, due_by, come_by, reading_by, unless_long, IsJudgedBy}
-use Rattle.send_model.specs.Renamed.{Names, renamed_items}
+use Rattle.send_model.specs.Overridden.{Overrides, overridden_items}
 use Rattle.send_model.specs.Composed.{first_head, last_head, head_command, version_of}
 use Rattle.send_model.specs.Laws.{CanWrite, AreInner, IsWhole}
 use Rattle.standing_model.specs.Births.{Tagged, tagged_store, tagged_step, tagged_after}
@@ -101,11 +101,11 @@ abbrev pub FilesAreThere : Type 0
 FilesAreThere =
     (files : List (List ℕ)) → AllByRecursion IsBytes files → AreThere files (input files).items
 
--- So it is under other names for parts, which no data have.
-abbrev pub RenamedAreThere : Type 0
-RenamedAreThere =
-    (files : List (List ℕ)) (names : Names) (items : List Item) → AreThere files items
-    → AreThere files (renamed_items names items)
+-- So it is under whatever is said in front of files, which changes no data.
+abbrev pub OverriddenAreThere : Type 0
+OverriddenAreThere =
+    (files : List (List ℕ)) (overrides : Overrides) (items : List Item) → AreThere files items
+    → AreThere files (overridden_items overrides items)
 
 abbrev pub SelfJudges : Type 0
 SelfJudges = (first_long : Option ℕ) (base : Store ℕ) (reading : Reading)

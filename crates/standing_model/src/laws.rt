@@ -2,7 +2,7 @@
 ghost use Rattle.standing_model.specs.Standing.{StandIsLeast, StandIsBlock};
 ghost use Rattle.standing_model.specs.Candidates.{EnoughFindStand, EditsPutTheirs, ClonesPutTheirs};
 ghost use Rattle.standing_model.specs.Promises.{SelfItemsHold, SelfReadingsHold, SelfFilesHold};
-ghost use Rattle.standing_model.specs.Promises.{SelfFrontsAreWritable, FilesAreThere, RenamedAreThere, SelfJudges};
+ghost use Rattle.standing_model.specs.Promises.{SelfFrontsAreWritable, FilesAreThere, OverriddenAreThere, SelfJudges};
 
 /// A stand that was found is the least place of the part at which the block stands, and none is found where there is none. A block stands
 /// where the file's own block at that place has just its tags. And it is the first of any places that are enough at which the block stands.
@@ -29,6 +29,6 @@ pub fn selves_hold()
     ensures files { SelfFilesHold }
     ensures fronts { SelfFrontsAreWritable }
     ensures there { FilesAreThere }
-    ensures renamed { RenamedAreThere }
+    ensures overridden { OverriddenAreThere }
     ensures judged { SelfJudges }
 {}
