@@ -1,0 +1,4 @@
+pub mod Exact
+pub mod Blocks
+pub mod Slots
+pub mod Puts
