@@ -20,7 +20,7 @@ slot_of width blocks = record {
   start = start_of width blocks.first;
   ino = blocks.ino;
   shift = blocks.at + (width - blocks.first % width);
-  first = blocks.first
+  first = blocks.first;
 }
 
 module _ {S : Type 0} (width : ℕ) (wide : IsWidth width) (blocks : Blocks S) where
@@ -49,7 +49,7 @@ module _ {S : Type 0} (width : ℕ) (wide : IsWidth width) (blocks : Blocks S) w
       source_is = b.source_is;
       cell_is = b.cell_is;
       ino_is = b.ino_is;
-      place_is = b.place_is
+      place_is = b.place_is;
     }
 
     -- An entry that is put in adds its blocks, if there were fewer at its key.
@@ -64,7 +64,7 @@ module _ {S : Type 0} (width : ℕ) (wide : IsWidth width) (blocks : Blocks S) w
         | inl old ↦ old_there order exact key blocks.count (blocks_of width) (Begins source cell ino place) es
             (λ was finds begins. more_blocks was blocks.count (fewer was finds) source cell ino place begins) old
         | inr new ↦ new_there order exact key blocks.count (blocks_of width) (Begins source cell ino place) es (subst (Begins source cell ino place) (sym same_blocks) new)
-      ])
+      ]),
     )
 
     -- Where as many were there, nothing needs to be put in.
@@ -75,7 +75,7 @@ module _ {S : Type 0} (width : ℕ) (wide : IsWidth width) (blocks : Blocks S) w
         | inl old ↦ old
         | inr new ↦ found_there order exact key (blocks_of width) (Begins source cell ino place) es was finds
             (more_blocks blocks.count was more source cell ino place (subst (Begins source cell ino place) (sym same_blocks) new))
-      ])
+      ]),
     )
 
     pub put_kept : AreSlots width es → 0 < blocks.count → blocks.first + 4096 * (blocks.count - 1) < start_of width blocks.first + width
@@ -85,7 +85,7 @@ module _ {S : Type 0} (width : ℕ) (wide : IsWidth width) (blocks : Blocks S) w
       start_is = refl;
       within = within;
       low = omega (arith, mod_below blocks.first width wide.some, mod-le blocks.first width);
-      small = record { ino = ino; shift = omega (arith, at, wide.most); first = first }
+      small = record { ino = ino; shift = omega (arith, at, wide.most); first = first };
     })
 
 -- ---- blocks part by part
@@ -101,7 +101,7 @@ module _ {S : Type 0} where
   pub adds_none : (blocks : Blocks S) (old : List (Blocks S)) → Adds (front_of blocks 0) old old
   adds_none blocks old source cell ino place = (
     (λ has. inl has),
-    (λ has. elim has [ inl old ↦ old | inr none ↦ absurd (below none.block none.within) ])
+    (λ has. elim has [ inl old ↦ old | inr none ↦ absurd (below none.block none.within) ]),
   )
     where
       below : (n : ℕ) → n < 0 → ⊥
@@ -121,10 +121,16 @@ module _ {S : Type 0} where
       | inl before ↦ (next source cell ino place).1 (inl ((first source cell ino place).1 (inl before)))
       | inr b ↦ elim (split b.block) [
         | inl low ↦ (next source cell ino place).1 (inl ((first source cell ino place).1 (inr (record {
-          block = b.block; within = low; source_is = b.source_is; cell_is = b.cell_is; ino_is = b.ino_is; place_is = b.place_is }))))
+          block = b.block;
+          within = low;
+          source_is = b.source_is;
+          cell_is = b.cell_is;
+          ino_is = b.ino_is;
+          place_is = b.place_is;
+        }))))
         | inr high ↦ (next source cell ino place).1 (inr (behind b high))
       ]
-    ])
+    ]),
   )
     where
       split : (block : ℕ) → (block < done) ⊎ (done ≤ block)
@@ -137,7 +143,7 @@ module _ {S : Type 0} where
         source_is = b.source_is;
         cell_is = moved cell blocks.first b.block b.cell_is;
         ino_is = b.ino_is;
-        place_is = moved place blocks.at b.block b.place_is
+        place_is = moved place blocks.at b.block b.place_is;
       }
         where
           moved : (a base block : ℕ) → a ≡ base + 4096 * done + 4096 * block → a ≡ base + 4096 * (done + block)
@@ -150,7 +156,7 @@ module _ {S : Type 0} where
         source_is = b.source_is;
         cell_is = moved cell blocks.first b.block high b.cell_is;
         ino_is = b.ino_is;
-        place_is = moved place blocks.at b.block high b.place_is
+        place_is = moved place blocks.at b.block high b.place_is;
       }
         where
           moved : (a base block : ℕ) → done ≤ block → a ≡ base + 4096 * block → a ≡ base + 4096 * done + 4096 * (block - done)

@@ -78,8 +78,11 @@ module _ {S : Type 0} (order : S → S → Ordering) (total : IsTotalOrder order
   -- The place of the block that begins with the cell is behind the last, if it is near.
   not_below : (slot : Slot S) → is_lt (slot_cmp order (slot_at (2 ^ 64 - 1) (2 ^ 64 - 1) (2 ^ 64 - 1)) slot) ≡ false → (order source slot.source ≡ Less → ⊥)
       × (order source slot.source ≡ Equal → nat_cmp (start_of width cell) slot.start ≡ Less → ⊥)
-  not_below slot e = (not_lt (order source slot.source) _ e, λ same. not_lt (nat_cmp (start_of width cell) slot.start) (tail_cmp order (slot_at (2 ^ 64 - 1) (2 ^ 64 - 1) (2 ^ 64 - 1)) slot)
-      (sym (ap (λ (o : Ordering). is_lt (ordering_then o (ordering_then (nat_cmp (start_of width cell) slot.start) (tail_cmp order (slot_at (2 ^ 64 - 1) (2 ^ 64 - 1) (2 ^ 64 - 1)) slot)))) same) ∙ e))
+  not_below slot e = (
+    not_lt (order source slot.source) _ e,
+    λ same. not_lt (nat_cmp (start_of width cell) slot.start) (tail_cmp order (slot_at (2 ^ 64 - 1) (2 ^ 64 - 1) (2 ^ 64 - 1)) slot)
+        (sym (ap (λ (o : Ordering). is_lt (ordering_then o (ordering_then (nat_cmp (start_of width cell) slot.start) (tail_cmp order (slot_at (2 ^ 64 - 1) (2 ^ 64 - 1) (2 ^ 64 - 1)) slot)))) same) ∙ e),
+  )
 
   pub near_none : (slot : Slot S) → is_near None slot ≡ true → IsOf slot
   near_none slot e =
@@ -109,11 +112,14 @@ module _ {S : Type 0} (order : S → S → Ordering) (total : IsTotalOrder order
             of = record { source_is = sym (exact source slot.source q.0); start_is = sym (number_same (start_of width cell) slot.start r.0) };
             behind = elim (lt_else (nat_cmp last.0 slot.ino) _ r.1) [
               | inl less ↦ inl (number_less last.0 slot.ino less)
-              | inr t ↦ inr (number_same last.0 slot.ino t.0, elim (lt_else (nat_cmp (last.1 + (width - (cell - start_of width cell))) slot.shift) _ t.1) [
-                | inl less ↦ number_less _ slot.shift less
-                | inr u ↦ absurd (none u.1)
-              ])
-            ]
+              | inr t ↦ inr (
+                number_same last.0 slot.ino t.0,
+                elim (lt_else (nat_cmp (last.1 + (width - (cell - start_of width cell))) slot.shift) _ t.1) [
+                  | inl less ↦ number_less _ slot.shift less
+                  | inr u ↦ absurd (none u.1)
+                ],
+              )
+            ];
           }
         ]
       ]
@@ -181,7 +187,7 @@ module _ {S : Type 0} (order : S → S → Ordering) (total : IsTotalOrder order
         source_is = of.source_is;
         cell_is = omega (arith, from, whole);
         ino_is = refl;
-        place_is = placed (start_of width cell) e.0.start e.0.shift e.0.first ((cell - e.0.first) / 4096) start enough near under (omega (arith, from, whole))
+        place_is = placed (start_of width cell) e.0.start e.0.shift e.0.first ((cell - e.0.first) / 4096) start enough near under (omega (arith, from, whole));
       }
     where
       placed : (s t shift first block : ℕ) → t ≡ s → t + width ≤ shift + first → cell < s + width → t ≤ first → cell ≡ first + 4096 * block
@@ -209,7 +215,7 @@ module _ {S : Type 0} (order : S → S → Ordering) (total : IsTotalOrder order
         of = record { source_is = begins.source_is; start_is = start };
         has = tests e.0.first e.1 begins.block at below;
         ino_is = sym begins.ino_is;
-        place_is = omega (arith, there, at, below, last, enough, first_low, slot.start_is)
+        place_is = omega (arith, there, at, below, last, enough, first_low, slot.start_is);
       }
     where
       tests : (first count block : ℕ) → cell ≡ first + 4096 * block → block < count
@@ -225,11 +231,13 @@ module _ {S : Type 0} (order : S → S → Ordering) (total : IsTotalOrder order
   near_behind None e slot near has = (near_none e.0 near, tt)
   near_behind (Some last) e slot near has =
       let later = near_some last e.0 slot.small.first near in
-      let near' : cell < start_of width cell + width = start_near width cell some in
-      (later.of, elim later.behind [
-        | inl more ↦ inl more
-        | inr p ↦ inr (p.0, farther (start_of width cell) e.0.start e.0.shift last.1 later.of.start_is p.1 near')
-      ])
+      let near' : cell < start_of width cell + width = start_near width cell some in (
+        later.of,
+        elim later.behind [
+          | inl more ↦ inl more
+          | inr p ↦ inr (p.0, farther (start_of width cell) e.0.start e.0.shift last.1 later.of.start_is p.1 near')
+        ],
+      )
     where
       farther : (s t shift at : ℕ) → t ≡ s → at + (width - (cell - s)) < shift → cell < s + width → at < shift - (width - (cell - t))
       farther s t shift at is more near = omega (arith, is, more, near)
@@ -240,10 +248,13 @@ module _ {S : Type 0} (order : S → S → Ordering) (total : IsTotalOrder order
 
   behind_near : (last : Option (ℕ × ℕ)) (e : Slot S × ℕ) → IsSlot width e → IsOf e.0 → IsBehind last (place_of width cell e.0) → is_near last e.0 ≡ true
   behind_near None e slot of behind = is_near_none e.0 of slot.small
-  behind_near (Some last) e slot of behind = is_near_some last e.0 (record { of = of; behind = elim behind [
+  behind_near (Some last) e slot of behind = is_near_some last e.0 (record {
+    of = of;
+    behind = elim behind [
       | inl more ↦ inl more
       | inr p ↦ inr (p.0, back (start_of width cell) e.0.start e.0.shift last.1 of.start_is p.1)
-    ] }) slot.small
+    ];
+  }) slot.small
     where
       back : (s t shift at : ℕ) → t ≡ s → at < shift - (width - (cell - t)) → at + (width - (cell - s)) < shift
       back s t shift at is more = omega (arith, is, more)
@@ -254,7 +265,7 @@ module _ {S : Type 0} (order : S → S → Ordering) (total : IsTotalOrder order
       let sources : order a.source b.source ≡ Equal = ap (λ (s : S). order s b.source) p.source_is ∙ ap (order source) q.source_is ∙ tied_itself total source in
       let starts : nat_cmp a.start b.start ≡ Equal = ap (λ (n : ℕ). nat_cmp n b.start) p.start_is ∙ ap (nat_cmp (start_of width cell)) q.start_is ∙ says_same (start_of width cell) in
       let tail : tail_cmp order a b ≡ Less = sym (ap (λ (o : Ordering). ordering_then o (ordering_then (nat_cmp a.start b.start) (tail_cmp order a b))) sources
-          ∙ ap (λ (o : Ordering). ordering_then o (tail_cmp order a b)) starts) ∙ e in
+      ∙ ap (λ (o : Ordering). ordering_then o (tail_cmp order a b)) starts) ∙ e in
       elim (tail_less order a b tail) [
         | inl more ↦ inl more
         | inr t ↦ inr (t.0, omega (arith, t.1, p.start_is, q.start_is))
@@ -290,11 +301,14 @@ module _ {S : Type 0} (order : S → S → Ordering) (total : IsTotalOrder order
         one true passes rest is =
             let p = both (is_near last x.0) _ passes in
             let near = near_behind last x slots.0 p.0 p.1 in
-            subst (λ (o : Option (Slot S × ℕ)). IsNext (HasIn (x ∷ es)) last (option_map (λ e. place_of width cell e.0) o)) is
-            (inl (has_begins x slots.0 near.0 p.1), near.1, λ other has behind. elim has [
-              | inl here ↦ let says = begins_says x other.0 other.1 slots.0 here in inr (sym says.ino_is, omega (arith, says.place_is))
-              | inr there ↦ after_all x es near.0 slots.1 (sorted_head (slot_cmp order) x.0 (keys_of es) sorted) other there
-            ])
+            subst (λ (o : Option (Slot S × ℕ)). IsNext (HasIn (x ∷ es)) last (option_map (λ e. place_of width cell e.0) o)) is (
+              inl (has_begins x slots.0 near.0 p.1),
+              near.1,
+              λ other has behind. elim has [
+                | inl here ↦ let says = begins_says x other.0 other.1 slots.0 here in inr (sym says.ino_is, omega (arith, says.place_is))
+                | inr there ↦ after_all x es near.0 slots.1 (sorted_head (slot_cmp order) x.0 (keys_of es) sorted) other there
+              ],
+            )
         one false misses rest is = more o (rest o is)
           where
             not_here : (other : ℕ × ℕ) → Begins source cell other.0 other.1 (blocks_of width x) → IsBehind last other → ⊥
@@ -323,7 +337,7 @@ module _ {S : Type 0} (order : S → S → Ordering) (total : IsTotalOrder order
         × ((o : Option (Slot S × ℕ)) → sought cell found ≡ o → IsNext (HasIn es) last (option_map (λ e. place_of width cell e.0) o))
     near_found es found slots sorted is = (
       subst (AllByRecursion (λ e. IsSlot width e × (e.0.start ≡ start_of width cell))) (sym is) (near_all es slots),
-      λ o finds. first_is_next es slots sorted o (sym (first_of_filter (λ (e : Slot S × ℕ). is_near last e.0) (λ (e : Slot S × ℕ). has_cell e.0 e.1 cell) es) ∙ ap (sought cell) (sym is) ∙ finds)
+      λ o finds. first_is_next es slots sorted o (sym (first_of_filter (λ (e : Slot S × ℕ). is_near last e.0) (λ (e : Slot S × ℕ). has_cell e.0 e.1 cell) es) ∙ ap (sought cell) (sym is) ∙ finds),
     )
 
 -- ---- one step of a look-up

@@ -48,7 +48,7 @@ module _ {K X : Type 0} (order : K → K → Ordering) (exact : (a b : K) → or
             ]
         one Greater is rest =
             let on : (was : X) → lookup (is_at (order k)) es ≡ Some was → lookup (is_at (order k)) (e ∷ es) ≡ Some was
-                = λ was finds. ap (λ (o : Ordering). cond (is_eq o) (Some e.1) (lookup (is_at (order k)) es)) is ∙ finds in
+            = λ was finds. ap (λ (o : Ordering). cond (is_eq o) (Some e.1) (lookup (is_at (order k)) es)) is ∙ finds in
             elim has [
               | inl here ↦ inl here
               | inr there ↦ inr (rest (λ was finds. more was (on was finds)) there)

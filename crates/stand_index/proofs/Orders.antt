@@ -94,10 +94,13 @@ module _ {S : Type 0} (order : S → S → Ordering) where
   pub tail_less : (a b : Slot S) → tail_cmp a b ≡ Less → (a.ino < b.ino) ⊎ ((a.ino ≡ b.ino) × (a.shift ≤ b.shift))
   tail_less a b e = elim (less_else _ _ e) [
     | inl less ↦ inl (number_less a.ino b.ino less)
-    | inr p ↦ inr (number_same a.ino b.ino p.0, elim (less_else (nat_cmp a.shift b.shift) (nat_cmp a.first b.first) p.1) [
-      | inl less ↦ omega (arith, number_less a.shift b.shift less)
-      | inr q ↦ omega (arith, number_same a.shift b.shift q.0)
-    ])
+    | inr p ↦ inr (
+      number_same a.ino b.ino p.0,
+      elim (less_else (nat_cmp a.shift b.shift) (nat_cmp a.first b.first) p.1) [
+        | inl less ↦ omega (arith, number_less a.shift b.shift less)
+        | inr q ↦ omega (arith, number_same a.shift b.shift q.0)
+      ],
+    )
   ]
 
 then_equal : (o r : Ordering) → ordering_then o r ≡ Equal → (o ≡ Equal) × (r ≡ Equal)

@@ -41,7 +41,7 @@ fresh_put file first into at count f c ino place b = record {
   within = b.within;
   cell = ap (λ (n : ℕ). Fresh n c) (sym b.source_is) ∙ ap (Fresh file) b.cell_is;
   file = sym b.ino_is;
-  there = b.place_is
+  there = b.place_is;
 }
 
 fresh_begins : (file first into at count f c ino place : ℕ) → IsPutBy (Fresh file first) into at count (Fresh f c) ino place → Begins f c ino place (run file first into at count)
@@ -58,7 +58,7 @@ outside_put key from first into at count k f c ino place b =
       within = b.within;
       cell = ap (λ (l : Key). Outside l f c) (sym same.0) ∙ ap (λ (n : ℕ). Outside key n c) (sym same.1) ∙ ap (Outside key from) b.cell_is;
       file = sym b.ino_is;
-      there = b.place_is
+      there = b.place_is;
     }
 
 outside_begins : (key : Key) (from first into at count : ℕ) (k : Key) (f c ino place : ℕ) → IsPutBy (Outside key from first) into at count (Outside k f c) ino place
@@ -71,7 +71,7 @@ outside_begins key from first into at count k f c ino place p =
       source_is = ap (λ (l : Key). file_of l from) (sym same.0) ∙ ap (file_of k) (sym same.1);
       cell_is = same.2;
       ino_is = sym p.file;
-      place_is = p.there
+      place_is = p.there;
     }
 
 -- ---- what is put in
@@ -81,11 +81,11 @@ module _ (outside : List (Blocks OutsideFile)) (old new : List (Blocks ℕ)) whe
       → PutsBlocks (Fresh file first) into at count (record { inputs = old; outside = outside }) (record { inputs = new; outside = outside })
   fresh_adds file first into at count adds (Fresh f c) ino place = (
     (λ has. elim ((adds f c ino place).0 has) [ inl was ↦ inl was | inr b ↦ inr (fresh_put file first into at count f c ino place b) ]),
-    (λ has. (adds f c ino place).1 (elim has [ inl was ↦ inl was | inr p ↦ inr (fresh_begins file first into at count f c ino place p) ]))
+    (λ has. (adds f c ino place).1 (elim has [ inl was ↦ inl was | inr p ↦ inr (fresh_begins file first into at count f c ino place p) ])),
   )
   fresh_adds file first into at count adds (Outside k f c) ino place = (
     (λ has. inl has),
-    (λ has. elim has [ inl was ↦ was | inr p ↦ absurd (apart file (first + 4096 * p.block) k f c (sym p.cell)) ])
+    (λ has. elim has [ inl was ↦ was | inr p ↦ absurd (apart file (first + 4096 * p.block) k f c (sym p.cell)) ]),
   )
 
 module _ (inputs : List (Blocks ℕ)) (old new : List (Blocks OutsideFile)) where
@@ -93,11 +93,11 @@ module _ (inputs : List (Blocks ℕ)) (old new : List (Blocks OutsideFile)) wher
       → PutsBlocks (Outside key from first) into at count (record { inputs = inputs; outside = old }) (record { inputs = inputs; outside = new })
   outside_adds key from first into at count adds (Fresh f c) ino place = (
     (λ has. inl has),
-    (λ has. elim has [ inl was ↦ was | inr p ↦ absurd (apart f c key from (first + 4096 * p.block) p.cell) ])
+    (λ has. elim has [ inl was ↦ was | inr p ↦ absurd (apart f c key from (first + 4096 * p.block) p.cell) ]),
   )
   outside_adds key from first into at count adds (Outside k f c) ino place = (
     (λ has. elim ((adds (file_of k f) c ino place).0 has) [ inl was ↦ inl was | inr b ↦ inr (outside_put key from first into at count k f c ino place b) ]),
-    (λ has. (adds (file_of k f) c ino place).1 (elim has [ inl was ↦ inl was | inr p ↦ inr (outside_begins key from first into at count k f c ino place p) ]))
+    (λ has. (adds (file_of k f) c ino place).1 (elim has [ inl was ↦ inl was | inr p ↦ inr (outside_begins key from first into at count k f c ino place p) ])),
   )
 
 -- ---- runs
@@ -110,7 +110,7 @@ module _ (first : Trace) (into at len skip count : ℕ) (reaches : len ≤ reach
     cell = p.cell ∙ by_both first skip (4096 * p.block) (omega (arith, far_in p.block p.within, reaches));
     file = p.file;
     there = there p.block p.there;
-    begins = begins p.block p.there
+    begins = begins p.block p.there;
   }
     where
       far_in : (block : ℕ) → block < count → skip + 4096 * block < len
@@ -128,7 +128,7 @@ module _ (first : Trace) (into at len skip count : ℕ) (reaches : len ≤ reach
     within = within p.far p.within;
     cell = p.cell ∙ ap (advanced_by first) (far_is p.far p.there p.begins) ∙ sym (by_both first skip (4096 * ((p.far - skip) / 4096)) (omega (arith, sym (far_is p.far p.there p.begins), p.within, reaches)));
     file = p.file;
-    there = p.there ∙ there p.far (far_is p.far p.there p.begins)
+    there = p.there ∙ there p.far (far_is p.far p.there p.begins);
   }
     where
       far_is : (far : ℕ) → place ≡ at + far → place % 4096 ≡ 0 → far ≡ skip + 4096 * ((far - skip) / 4096)
@@ -143,14 +143,14 @@ module _ (first : Trace) (into at len skip count : ℕ) (reaches : len ≤ reach
   pub run_puts : (old new : Puts) → skip < len → count ≡ (len - skip - 1) / 4096 + 1 → PutsBlocks (advanced_by first skip) into (at + skip) count old new → PutsRun first into at len old new
   run_puts old new some many puts tag ino place = (
     (λ has. elim ((puts tag ino place).0 has) [ inl was ↦ inl was | inr p ↦ inr (from_blocks some many tag ino place p) ]),
-    (λ has. (puts tag ino place).1 (elim has [ inl was ↦ inl was | inr p ↦ inr (to_blocks some many tag ino place p) ]))
+    (λ has. (puts tag ino place).1 (elim has [ inl was ↦ inl was | inr p ↦ inr (to_blocks some many tag ino place p) ])),
   )
 
   -- No block begins in a run that ends before the first one.
   pub run_has_none : (old : Puts) → len ≤ skip → PutsRun first into at len old old
   run_has_none old short tag ino place = (
     (λ has. inl has),
-    (λ has. elim has [ inl was ↦ was | inr p ↦ absurd (none p.far p.within p.there p.begins) ])
+    (λ has. elim has [ inl was ↦ was | inr p ↦ absurd (none p.far p.within p.there p.begins) ]),
   )
     where
       none : (far : ℕ) → far < len → place ≡ at + far → place % 4096 ≡ 0 → ⊥

@@ -18,7 +18,7 @@ blocks_of width e = record {
   first = e.0.first;
   ino = e.0.ino;
   at = (e.0.shift + e.0.first) - (e.0.start + width);
-  count = e.1
+  count = e.1;
 }
 
 abbrev pub all_blocks : {S : Type 0} → ℕ → List (Slot S × ℕ) → List (Blocks S)

@@ -74,12 +74,7 @@ impl<S: Source> Slots<S> {
 
     // The least place behind `last`, by inode number and then by place, at which a block was put
     // that begins with a cell from the place `cell` of a source. Takes no memory.
-    pub(crate) fn after(
-        &self,
-        source: S,
-        cell: u64,
-        last: Option<(u64, u64)>,
-    ) -> Option<(u64, u64)>
+    pub(crate) fn after(&self, source: S, cell: u64, last: Option<(u64, u64)>) -> Option<(u64, u64)>
         requires { IfSome last (λ place. place.1 < 2 ^ 63) }
         ensures { IsNext (λ place. IsAmong source cell place.0 place.1 self.now) last result }
     {

@@ -12,7 +12,7 @@ loop-done-preserved g c = (
   c.loop-done.invariant.2,
   c.loop-done.invariant.3,
   adds_part c.args.blocks c.loop-done.done c.min-count.result (all_blocks c.self.inside.width c.self.inside.map.entries)
-    (all_blocks c.loop-done.self-inside.width c.loop-done.self-inside.map.entries) (all_blocks c.loop-done.self-inside.width c.put.new.map.entries) c.loop-done.invariant.4 c.in_ok-put.ensures.added
+      (all_blocks c.loop-done.self-inside.width c.loop-done.self-inside.map.entries) (all_blocks c.loop-done.self-inside.width c.put.new.map.entries) c.loop-done.invariant.4 c.in_ok-put.ensures.added,
 )
 
 pub returns : goal.returns
