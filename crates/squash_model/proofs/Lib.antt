@@ -1,0 +1,26 @@
+mod SquashExamples
+pub mod Laid
+pub mod WrittenAnew
+pub mod SquashedRuns
+pub mod StandingCells
+pub mod SquashedSame
+pub mod LawfulRuns
+pub mod CountedSquash
+pub mod SameSquash
+pub mod SquashProved
+pub mod Relabelled
+pub mod SquashedTwice
+pub mod SpelledSquash
+pub mod SquashedFiles
+pub mod StandingLast
+pub mod PlacedBirths
+pub mod PlacedFiles
+pub mod KeptBytes
+pub mod Judged
+pub mod LiveReads
+pub mod KeptCells
+pub mod LiveSteps
+pub mod LiveCommands
+pub mod LiveRuns
+pub mod LiveSquash
+pub mod LiveCells

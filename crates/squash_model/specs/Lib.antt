@@ -1,0 +1,6 @@
+pub mod Squashed
+pub mod SquashLaws
+pub mod SquashedStreams
+pub mod PlacedSquash
+pub mod SquashJudge
+pub mod Liveness
