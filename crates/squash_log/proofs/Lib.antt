@@ -1,0 +1,4 @@
+pub mod Tests
+pub mod KeptCells
+pub mod LivingMaps
+pub mod SpanRuns

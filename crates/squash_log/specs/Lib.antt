@@ -1,0 +1,4 @@
+pub mod Changes
+pub mod Cells
+pub mod Fates
+pub mod Stacks
