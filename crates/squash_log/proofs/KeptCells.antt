@@ -132,7 +132,7 @@ part_none at len cells h k = past_dead [] k (omega arith) ∙ sym (ap (λ (b : B
     none true = refl
     none false = refl
 
-between_read : (at n k : ℕ) (cells : Cells) → k < n → get_or (cells_between at n cells) k None ≡ get_or cells (at + k) None
+pub between_read : (at n k : ℕ) (cells : Cells) → k < n → get_or (cells_between at n cells) k None ≡ get_or cells (at + k) None
 unfolding cells_between
 between_read at n k cells h = get_or-take n (drop at cells) k None h ∙ get_or-drop at cells k None
 

@@ -2,3 +2,5 @@ pub mod Tests
 pub mod KeptCells
 pub mod LivingMaps
 pub mod SpanRuns
+pub mod FateRuns
+pub mod StackLaws

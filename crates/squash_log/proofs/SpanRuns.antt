@@ -102,48 +102,60 @@ module _ (lives : ℕ → Bool) where
 
   -- ---- pieces
 
+  step_run : (n : ℕ) (begun : Option Span) (at : ℕ) → lives at ≡ true → left_spans lives begun at (suc n) ≡ left_spans lives (Some (grown begun at 1)) (at + 1) n
+  step_run n begun at alive = ap (λ (b : Bool). if b then left_spans lives (Some (grown begun at 1)) (at + 1) n else option_to_list begun ++ left_spans lives None (at + 1) n) alive
+
+  step_hole : (n : ℕ) (begun : Option Span) (at : ℕ) → lives at ≡ false → left_spans lives begun at (suc n) ≡ option_to_list begun ++ left_spans lives None (at + 1) n
+  step_hole n begun at dead = ap (λ (b : Bool). if b then left_spans lives (Some (grown begun at 1)) (at + 1) n else option_to_list begun ++ left_spans lives None (at + 1) n) dead
+
+  grown_more : (m at : ℕ) (o : Option Span) → grown (Some (grown o at 1)) (at + 1) (suc m) ≡ grown o at (suc (suc m))
+  grown_more m at None = ap (λ (k : ℕ). span at k) (let e : 1 + suc m ≡ suc (suc m) = omega arith in e)
+  grown_more m at (Some s) = ap (λ (k : ℕ). span s.at k) (let e : s.len + 1 + suc m ≡ s.len + suc (suc m) = omega arith in e)
+
+  run_more : (m : ℕ) (begun : Option Span) (at len : ℕ) → ((k : ℕ) → at ≤ k → k < at + suc m → lives k ≡ true)
+      → left_spans lives begun at (suc m + len) ≡ left_spans lives (Some (grown begun at (suc m))) (at + suc m) len
+  run_more zero begun at len all =
+      let e : suc zero + len ≡ suc len = omega arith in
+      let b : at + 1 ≡ at + suc zero = omega arith in
+      ap (λ (k : ℕ). left_spans lives begun at k) e ∙ step_run len begun at (all at (omega arith) (omega arith))
+      ∙ ap (λ (p : ℕ). left_spans lives (Some (grown begun at 1)) p len) b
+  run_more (suc m) begun at len all =
+      let e : suc (suc m) + len ≡ suc (suc m + len) = omega arith in
+      let b : at + 1 + suc m ≡ at + suc (suc m) = omega arith in
+      ap (λ (k : ℕ). left_spans lives begun at k) e ∙ step_run (suc m + len) begun at (all at (omega arith) (omega arith))
+      ∙ run_more m (Some (grown begun at 1)) (at + 1) len (λ k low high. all k (omega (arith, low)) (omega (arith, high)))
+      ∙ ap₂ (λ (s : Span) (p : ℕ). left_spans lives (Some s) p len) (grown_more m at begun) b
+
+  hole_more : (m at len : ℕ) → ((k : ℕ) → at ≤ k → k < at + suc m → lives k ≡ false) → left_spans lives None at (suc m + len) ≡ left_spans lives None (at + suc m) len
+  hole_more zero at len all =
+      let e : suc zero + len ≡ suc len = omega arith in
+      let b : at + 1 ≡ at + suc zero = omega arith in
+      ap (λ (k : ℕ). left_spans lives None at k) e ∙ step_hole len None at (all at (omega arith) (omega arith)) ∙ ap (λ (p : ℕ). left_spans lives None p len) b
+  hole_more (suc m) at len all =
+      let e : suc (suc m) + len ≡ suc (suc m + len) = omega arith in
+      let b : at + 1 + suc m ≡ at + suc (suc m) = omega arith in
+      ap (λ (k : ℕ). left_spans lives None at k) e ∙ step_hole (suc m + len) None at (all at (omega arith) (omega arith))
+      ∙ hole_more m (at + 1) len (λ k low high. all k (omega (arith, low)) (omega (arith, high)))
+      ∙ ap (λ (p : ℕ). left_spans lives None p len) b
+
+  hole_begun : (m : ℕ) (begun : Option Span) (at len : ℕ) → ((k : ℕ) → at ≤ k → k < at + suc m → lives k ≡ false)
+      → left_spans lives begun at (suc m + len) ≡ option_to_list begun ++ left_spans lives None (at + suc m) len
+  hole_begun m begun at len all =
+      let e : suc m + len ≡ suc (m + len) = omega arith in
+      ap (λ (k : ℕ). left_spans lives begun at k) e ∙ step_hole (m + len) begun at (all at (omega arith) (omega arith))
+      ∙ ap (λ (l : List Span). option_to_list begun ++ l) (sym (step_hole (m + len) None at (all at (omega arith) (omega arith))) ∙ ap (λ (k : ℕ). left_spans lives None at k) (sym e) ∙ hole_more m at len all)
+
   -- So many bytes that live.
   pub left_run : (n : ℕ) (begun : Option Span) (at len : ℕ) → ((k : ℕ) → at ≤ k → k < at + n → lives k ≡ true) → 0 < n
       → left_spans lives begun at (n + len) ≡ left_spans lives (Some (grown begun at n)) (at + n) len
   left_run zero begun at len all some = absurd (omega (arith, some))
-  left_run (suc n) begun at len all some =
-      let e : suc n + len ≡ suc (n + len) = omega arith in
-      ap (λ (k : ℕ). left_spans lives begun at k) e
-      ∙ ap (λ (b : Bool). if b then left_spans lives (Some (grown begun at 1)) (at + 1) (n + len) else option_to_list begun ++ left_spans lives None (at + 1) (n + len)) (all at (omega arith) (omega arith))
-      ∙ rest n refl
-    where
-      more : (m : ℕ) (o : Option Span) → grown (Some (grown o at 1)) (at + 1) m ≡ grown o at (suc m)
-      more m None = ap (λ (k : ℕ). span at k) (let e : 1 + m ≡ suc m = omega arith in e)
-      more m (Some s) = ap (λ (k : ℕ). span s.at k) (let e : s.len + 1 + m ≡ s.len + suc m = omega arith in e)
-
-      rest : (m : ℕ) → m ≡ n → left_spans lives (Some (grown begun at 1)) (at + 1) (n + len) ≡ left_spans lives (Some (grown begun at (suc n))) (at + suc n) len
-      rest zero e =
-          let a : n + len ≡ len = omega (arith, e) in
-          let b : at + 1 ≡ at + suc n = omega (arith, e) in
-          let c : 1 ≡ suc n = omega (arith, e) in
-          ap₂ (λ (p q : ℕ). left_spans lives (Some (grown begun at 1)) p q) b a ∙ ap (λ (k : ℕ). left_spans lives (Some (grown begun at k)) (at + suc n) len) c
-      rest (suc m) e =
-          left_run n (Some (grown begun at 1)) (at + 1) len (λ k low high. all k (omega (arith, low)) (omega (arith, high))) (omega (arith, e))
-          ∙ ap₂ (λ (s : Span) (p : ℕ). left_spans lives (Some s) p len) (more n begun) (let b : at + 1 + n ≡ at + suc n = omega arith in b)
+  left_run (suc n) begun at len all some = run_more n begun at len all
 
   -- So many bytes that do not.
   pub left_hole : (n : ℕ) (begun : Option Span) (at len : ℕ) → ((k : ℕ) → at ≤ k → k < at + n → lives k ≡ false) → 0 < n
       → left_spans lives begun at (n + len) ≡ option_to_list begun ++ left_spans lives None (at + n) len
   left_hole zero begun at len all some = absurd (omega (arith, some))
-  left_hole (suc n) begun at len all some =
-      let e : suc n + len ≡ suc (n + len) = omega arith in
-      ap (λ (k : ℕ). left_spans lives begun at k) e
-      ∙ ap (λ (b : Bool). if b then left_spans lives (Some (grown begun at 1)) (at + 1) (n + len) else option_to_list begun ++ left_spans lives None (at + 1) (n + len)) (all at (omega arith) (omega arith))
-      ∙ ap (λ (l : List Span). option_to_list begun ++ l) (rest n refl)
-    where
-      rest : (m : ℕ) → m ≡ n → left_spans lives None (at + 1) (n + len) ≡ left_spans lives None (at + suc n) len
-      rest zero e =
-          let a : n + len ≡ len = omega (arith, e) in
-          let b : at + 1 ≡ at + suc n = omega (arith, e) in
-          ap₂ (λ (p q : ℕ). left_spans lives None p q) b a
-      rest (suc m) e =
-          left_hole n None (at + 1) len (λ k low high. all k (omega (arith, low)) (omega (arith, high))) (omega (arith, e))
-          ∙ ap (λ (p : ℕ). left_spans lives None p len) (let b : at + 1 + n ≡ at + suc n = omega arith in b)
+  left_hole (suc n) begun at len all some = hole_begun n begun at len all
 
   -- Behind a place nothing lives.
   pub left_dead : (len : ℕ) (begun : Option Span) (at : ℕ) → ((k : ℕ) → at ≤ k → lives k ≡ false) → left_spans lives begun at len ≡ option_to_list begun

@@ -1,5 +1,5 @@
 // The fates of WRITE commands.
-ghost use Rattle.std.specs.Prelude.{◌≡◌, ◌<◌, ◌^◌, ◌+◌, ℕ, List, [], ◌∷◌, ◌++◌, ◌&&◌, Bool, not, length, drop, nat_lt, OnOk, IfOk, MatchOption};
+ghost use Rattle.std.specs.Prelude.{◌≡◌, ◌<◌, ◌^◌, ◌+◌, ◌-◌, ℕ, List, [], ◌∷◌, ◌++◌, ◌&&◌, Bool, not, length, drop, nat_lt, OnOk, IfOk, MatchOption};
 ghost use Rattle.std.specs.List.{list_all, range_with_len};
 ghost use Rattle.std.specs.Option.{option_to_list};
 ghost use Rattle.squash_log.specs.Cells.{cell_lives, lives_in, lives_from};
@@ -91,7 +91,10 @@ fn mark_range<E: Ended>(
         spans.new.items) }
 {
     let Some(cells) = files.get(&range.ino) else {
-        if range.len == 0 || ended.is_there(range.ino) {
+        if range.len == 0 {
+            return Ok(Mark::Whole);
+        }
+        if ended.is_there(range.ino) {
             return Ok(Mark::Whole);
         }
         return Ok(Mark::Parts {
@@ -117,15 +120,31 @@ fn mark_cells(
     let have = spans.len();
     push_spans(cells, range.at, range.len, spans)?;
     let count = (spans.len() - have) as u64;
-    let lengthens = is_longer(range) && !has_last(cells, range.at, range.len);
+    let lengthens = has_to_lengthen(cells, range);
     Ok(Mark::Parts { count, lengthens })
+}
+
+// Whether a file was shorter than the end of a range, which is not empty, and the last byte of the
+// range does not live.
+fn has_to_lengthen(cells: &Extents<Nowhere>, range: &FileRange) -> bool
+    requires { 0 < range.now.len }
+    ensures { result ≡ (nat_lt range.now.size (range.now.at + range.now.len)
+        && not (lives_from cells.now range.now.at (range.now.len - 1))) }
+{
+    if !is_longer(range) {
+        return false;
+    }
+    !has_last(cells, range.at, range.len)
 }
 
 // Whether a file was shorter than the end of a range.
 fn is_longer(range: &FileRange) -> bool
     ensures { result ≡ nat_lt range.now.size (range.now.at + range.now.len) }
 {
-    range.at > range.size || range.len > range.size - range.at
+    if range.at > range.size {
+        return true;
+    }
+    range.len > range.size - range.at
 }
 
 // Whether all bytes of a range live.
@@ -136,13 +155,18 @@ fn is_whole(cells: &Extents<Nowhere>, at: u64, len: u64) -> bool
         return true;
     }
     let size = cells.size();
-    if at > size || len > size - at {
+    if at > size {
         return false;
     }
-    for (origin, _) in cells.pieces(at, len) {
+    if len > size - at {
+        return false;
+    }
+    let mut place = 0;
+    for (origin, count) in cells.pieces(at, len) {
         if origin.is_none() {
             return false;
         }
+        place += count;
     }
     true
 }
@@ -153,7 +177,10 @@ fn has_last(cells: &Extents<Nowhere>, at: u64, len: u64) -> bool
     ensures { result ≡ lives_from cells.now at (len - 1) }
 {
     let size = cells.size();
-    if at >= size || len > size - at {
+    if at >= size {
+        return false;
+    }
+    if len > size - at {
         return false;
     }
     match cells.pieces(at + (len - 1), 1).next() {
@@ -187,7 +214,8 @@ fn push_spans(
         }
         place += count;
     }
-    push_span(to, running)
+    push_span(to, running)?;
+    Ok(())
 }
 
 // A stretch with more bytes behind it, or a new one.
@@ -240,8 +268,12 @@ impl Fates {
     pub fn pass(&mut self)
         ensures { self.new ≡ drop 1 self.old }
     {
-        if let Some(mark) = self.marks.pop() {
-            if let Mark::Parts { count, .. } = mark {
+        let Some(mark) = self.marks.pop() else {
+            return;
+        };
+        match mark {
+            Mark::Whole => {}
+            Mark::Parts { count, .. } => {
                 let from = self.spans.len() - count as usize;
                 self.spans.truncate(from);
             }

@@ -49,11 +49,13 @@ impl Log {
         requires fits { Fits change }
         ensures { OnOk result (self.new ≡ self.old ++ change ∷ []) }
     {
-        if self.last.len() >= BLOCK {
-            let next = Vec::with_capacity(self.alloc, BLOCK)?;
-            let block = mem::replace(&mut self.last, next);
-            self.full.push(block)?;
+        if self.last.len() < BLOCK {
+            self.last.push(change)?;
+            return Ok(());
         }
+        let next = Vec::with_capacity(self.alloc, BLOCK)?;
+        let block = mem::replace(&mut self.last, next);
+        self.full.push(block)?;
         self.last.push(change)?;
         Ok(())
     }
@@ -64,12 +66,17 @@ impl Log {
             (λ change. self.old ≡ self.new ++ change ∷ []) }
         ensures fits { MatchOption result (Unit {0}) Fits }
     {
-        if self.last.is_empty() {
-            let Some(block) = self.full.pop() else {
-                return None;
-            };
-            self.last = block;
+        if let Some(change) = self.last.pop() {
+            return Some(change);
         }
-        self.last.pop()
+        let Some(block) = self.full.pop() else {
+            return None;
+        };
+        let mut block = block;
+        let Some(change) = block.pop() else {
+            unreachable!()
+        };
+        self.last = block;
+        Some(change)
     }
 }

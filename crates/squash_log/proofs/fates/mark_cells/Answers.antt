@@ -1,0 +1,17 @@
+use Rattle.std.proofs.Common.{◌≡◌, ◌-◌, length, refl, sym, ◌∙◌, ap, ap₂, arith, rules}
+use Rattle.squash_log.specs.Cells.{lives_from}
+use Rattle.squash_log.proofs.FateRuns.{whole_mark, parts_mark, some_left}
+use Rattle.squash_log.proofs.fates.mark_cells.Goals as goal
+
+pub returns-then-is_whole : goal.returns-then-is_whole
+returns-then-is_whole c =
+    whole_mark (lives_from c.args.cells.now c.args.range.now.at) c.args.range.now c.args.spans.now.items c.args.spans.now.items (sym c.is_whole.ensures ∙ c.if-is_whole.true) refl
+
+pub has_to_lengthen-lengthens-requires : goal.has_to_lengthen-lengthens-requires
+has_to_lengthen-lengthens-requires c =
+    some_left (lives_from c.args.cells.now c.args.range.now.at) c.args.range.now.len (sym c.is_whole.ensures ∙ c.if-is_whole.false)
+
+pub returns : goal.returns
+returns c =
+    parts_mark (lives_from c.args.cells.now c.args.range.now.at) c.args.range.now c.args.spans.now.items c.push_spans.new.to.items _ c.has_to_lengthen-lengthens.result
+    (sym c.is_whole.ensures ∙ c.if-is_whole.false) c.in_ok-push_spans.ensures ? c.has_to_lengthen-lengthens.ensures
