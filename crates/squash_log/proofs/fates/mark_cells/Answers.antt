@@ -14,4 +14,5 @@ has_to_lengthen-lengthens-requires c =
 pub returns : goal.returns
 returns c =
     parts_mark (lives_from c.args.cells.now c.args.range.now.at) c.args.range.now c.args.spans.now.items c.push_spans.new.to.items _ c.has_to_lengthen-lengthens.result
-    (sym c.is_whole.ensures ∙ c.if-is_whole.false) c.in_ok-push_spans.ensures ? c.has_to_lengthen-lengthens.ensures
+    (sym c.is_whole.ensures ∙ c.if-is_whole.false) c.in_ok-push_spans.ensures
+    (omega (arith, c.len.ensures, c.len-have.ensures, c.push_spans.new.to.ok.0, c.args.spans.now.ok.0)) c.has_to_lengthen-lengthens.ensures
