@@ -4,3 +4,4 @@ pub mod LivingMaps
 pub mod SpanRuns
 pub mod FateRuns
 pub mod StackLaws
+pub mod Resolving

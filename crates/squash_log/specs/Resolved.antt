@@ -118,13 +118,16 @@ by_fate (Parts spans lengthens) path offset bytes =
     map (span_write path offset bytes) spans
     ++ (if lengthens then Truncate (offset + length bytes) path ∷ [] else [])
 
--- What stands for commands, of whose WRITE commands these are the fates. One without a fate stays.
+-- The next fate; a WRITE without one stays.
+abbrev pub next_fate : List Fate → Fate
+next_fate [] = Whole
+next_fate (fate ∷ fates) = fate
+
+-- What stands for commands, of whose WRITE commands these are the fates.
 abbrev pub by_fates : List Fate → List Command → List Command
 by_fates fates [] = []
-by_fates [] (Write path offset bytes ∷ commands) =
-    Write path offset bytes ∷ by_fates [] commands
-by_fates (fate ∷ fates) (Write path offset bytes ∷ commands) =
-    by_fate fate path offset bytes ++ by_fates fates commands
+by_fates fates (Write path offset bytes ∷ commands) =
+    by_fate (next_fate fates) path offset bytes ++ by_fates (drop 1 fates) commands
 by_fates fates (command ∷ commands) = command ∷ by_fates fates commands
 
 -- ---- the law

@@ -7,11 +7,13 @@ mod change;
 mod fate;
 mod fates;
 mod file_lives;
+mod laws;
 mod lives;
 mod log;
 
 pub use change::{Change, FileRange};
 pub use fate::{Fate, Span};
 pub use fates::{Fates, find_fates};
+pub use laws::fates_squash;
 pub use lives::Ended;
 pub use log::Log;
