@@ -1,0 +1,3 @@
+pub mod OwnStream
+pub mod StreamDues
+pub mod StreamLaws
