@@ -15,7 +15,7 @@ use Rattle.stream_model.specs.OwnStream.{Edits, edits_in, last_edits}
 
 -- ---- the last edits
 
-abbrev or_before : Option Edits → Option Edits → Option Edits
+abbrev pub or_before : Option Edits → Option Edits → Option Edits
 or_before before last = elim last as (λ x. Option Edits) [ None ↦ before | Some edits ↦ Some edits ]
 
 module _ (uuid : List ℕ) where
@@ -35,6 +35,10 @@ module _ (uuid : List ℕ) where
   alone_last : (g : Group) → last_edits uuid (g ∷ []) ≡ edits_in uuid g.content
   unfolding last_edits
   alone_last g = refl
+
+  -- one group more
+  pub one_more : (groups : List Group) (g : Group) → last_edits uuid (groups ++ g ∷ []) ≡ or_before (last_edits uuid groups) (edits_in uuid g.content)
+  one_more groups g = joined_last groups (g ∷ []) ∙ ap (or_before (last_edits uuid groups)) (alone_last g)
 
   -- a group that says none
   pub none_more : (groups : List Group) (g : Group) → last_edits uuid groups ≡ None → edits_in uuid g.content ≡ None → last_edits uuid (groups ++ g ∷ []) ≡ None
