@@ -1,4 +1,5 @@
-//! What `compose-self` promises: composing with the subvolume that is being composed as a source. The definitions over those of streams.
+//! What `compose-self` promises: composing with the subvolume that is being composed as a source.
+//! The definitions over those of streams.
 #![tactic(auto)]
 
 mod laws;
