@@ -1,1 +1,9 @@
 pub mod TextAnswers
+pub mod ValueReading
+pub mod Lines
+pub mod PackSteps
+pub mod LineTaking
+pub mod Packed
+pub mod Reading
+pub mod Taking
+pub mod Shapes
