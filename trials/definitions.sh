@@ -23,13 +23,14 @@ CRATES = [
     ('send_model', 'streams, subvolumes, stores, and what `compose` and `export` promise'),
     ('store_model', 'the file of a store, and what each command over it answers'),
     ('snapshot_model', 'a snapshot as a stream: `send` and `restore`'),
-    ('program_model', 'the requests of the program, and its answers'),
     ('text_model', 'streams as text'),
+    ('program_model', 'the requests of the program, and its answers'),
     ('sx_base', 'what files, outputs and disks are to the program'),
+    ('request_answers', 'what each request is answered, over the objects outside'),
     ('send_top', 'what a run promises'),
 ]
 # The modules of a crate that are listed, where it is not all of them.
-ONLY = {'send_top': ['Clauses']}
+ONLY = {'request_answers': ['Objects', 'Promises'], 'send_top': ['Clauses']}
 CLAUSES = [
     ('MeansNothing', 'arguments that are not understood'),
     ('Touches', 'what is read, written and used'),

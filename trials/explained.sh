@@ -45,6 +45,21 @@ misunderstood() {
     tells "$name" 2 usage "$said" "$@"
 }
 
+# ---- texts
+
+"$program" text small >lines && sed 's/^END/end/' lines >wrong-lines || exit 2
+count=$(wc -l <lines)
+tells 'a text with a wrong line' 1 "refused 1 $count $(($(wc -c <lines) - 4)) 37 BadText" "wrong-lines, line $count: each line has \
+to be as \`text\` prints it: all fields of the command in their order, each value in its one form, and END last" pack wrong-lines
+tells 'a stream in place of a text' 1 'refused 1 1 0 37 BadText' \
+    'small, line 1: this is a stream and no text: `text` prints it as one' pack small
+: >no-lines
+tells 'an empty text' 1 'refused 1 1 0 37 BadText' \
+    'no-lines, line 1: a text begins with the line `stream 1` or `stream 2`' pack no-lines
+on_terminal pack lines
+printf 'output fault\nbtrsend: standard output is a terminal, and a stream is binary data: write it to a file or into a pipe\n' >wanted
+explained 'no stream of a text goes to a terminal' 4 shown
+
 # ---- files that can not be read
 
 gone='No such file or directory (os error 2)'

@@ -270,6 +270,7 @@ run compose; refused 'no store' 2 usage
 run compose none; refused 'no files' 2 usage
 run --help --version; refused 'two words' 2 usage
 for words in 'audit none' 'audit guard:bytes none small' 'audit guard:nodev' 'dump' 'dump small second' \
+    'text' 'text small second' 'pack' 'pack small second' \
     'export' 'export small' 'export none' 'gen 1' 'gen 0 1' 'gen 4097 1' 'gen 1 18446744073709551616' 'gen 1 x' \
     'trial 1' 'trial 0 1' 'trial 4097 1' \
     'init' 'init one two' 'receive' 'receive some' 'receive guard:bytes some small' 'list' \
@@ -337,16 +338,25 @@ composed 'export of a pipe' receivable
 head -c 113 small >shorter
 run dump shorter; refused 'dump of a file that is cut' 1 'refused 1 4 113 3 Truncated'
 head -n 4 printed | cmp -s - out; case_is 'dump prints what it can' "$([ $? = 0 ] || echo 'it printed something else')"
+run text small; mv out small-text; case_is 'text' "$([ "$status" = 0 ] && [ ! -s note ] || echo "status $status")"
+run pack small-text; composed 'pack of the text' small
+(cat small-text | timeout 20 "$program" pack /dev/stdin >out 2>note); status=$?
+composed 'pack of a pipe' small
+run text shorter; refused 'text of a file that is cut' 1 'refused 1 4 113 3 Truncated'
+head -n 4 small-text | cmp -s - out; case_is 'text prints what it can' "$([ $? = 0 ] || echo 'it printed something else')"
+head -n 4 small-text >text-shorter
+run pack text-shorter; refused 'pack of a text that is cut' 1 "refused 1 5 $(wc -c <text-shorter) 37 BadText"
+head -c 113 small | cmp -s - out; case_is 'pack writes what it can' "$([ $? = 0 ] || echo 'it wrote something else')"
 run export none second; refused 'export without the first stream' 1 'refused 1 1 17 13 NoParent'
 run export none first damaged; refused 'export of a damaged file' 1 "$(sed 's/^refused 1/refused 2/' damaged-note)"
-for words in 'audit none small' 'dump small' 'export none small' 'gen 3 1' 'trial 3 1'; do
+for words in 'audit none small' 'dump small' 'text small' 'pack small-text' 'export none small' 'gen 3 1' 'trial 3 1'; do
     : >out
     timeout 20 "$program" $words >/dev/full 2>note; status=$?
     refused "a full device, $words" 4 'output fault'
     timeout 20 "$program" $words 2>note >&-; status=$?
     refused "a closed output, $words" 4 'output fault'
 done
-for words in 'audit none' 'dump' 'export none'; do
+for words in 'audit none' 'dump' 'text' 'pack' 'export none'; do
     run $words missing; refused "a missing file, $words" 3 'input fault'
 done
 run gen 4096 1; case_is 'the longest chain' "$([ "$status" = 0 ] && [ ! -s note ] || echo "status $status")"
@@ -676,13 +686,14 @@ closed_ways() {
     case_is "eight ways to close descriptors, $*" "${wrong_way#, }"
 }
 rm -f closed-store; "$program" init closed-store; "$program" receive closed-store small >/dev/null
+"$program" text small >closed-text
 for words in 'init closed-wanted' 'init closed-new' 'drop closed-wanted a' 'drop closed-wanted z' 'show closed-wanted z' \
     'receive closed-wanted small' 'receive closed-wanted missing' 'receive' 'audit closed-wanted m5'; do
     closed_ways silent $words
 done
 for words in 'receive closed-wanted second' 'interleave closed-wanted 0 second' 'list closed-wanted' 'show closed-wanted a' \
     'cat closed-wanted a 1' 'scrub closed-wanted' 'send closed-wanted a' 'restore closed-wanted a' 'audit closed-wanted second' \
-    'compose closed-wanted second' 'export closed-wanted second' 'dump small' 'gen 2 1' 'trial 2 1' '--help'; do
+    'compose closed-wanted second' 'export closed-wanted second' 'dump small' 'text small' 'pack closed-text' 'gen 2 1' 'trial 2 1' '--help'; do
     closed_ways writes $words
 done
 

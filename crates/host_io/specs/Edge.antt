@@ -1,41 +1,48 @@
 -- What the edge decides: how the file of a store is opened, and when standard output may not be
 -- written. This program's own.
-use Rattle.std.specs.Prelude.{ℕ, Bool, true, false, List, [], ◌∷◌, Option, None, Some, codes, if◌then◌else◌}
-use Rattle.send_model.specs.Words.{is_word}
-use Rattle.send_top.specs.declared.store_named.StoreUse.{StoreUse}
-use Rattle.send_top.specs.declared.store_named.StoreUse.TheVariants.{Make, Write, Read}
+use Rattle.std.specs.Prelude.{Bool, true, false, Option, None, Some, if◌then◌else◌}
+use Rattle.program_model.specs.Requests.{Request, Compose, Audit, Dump, Text, Pack, Export, Gen, Trial, Init, Drop, Receive, ListAll, Show, Cat, Scrub, Send, Restore, Interleave}
+use Rattle.command_line.specs.declared.profile.Access.{Access}
+use Rattle.command_line.specs.declared.profile.Access.TheVariants.{Makes, Changes, Reads}
 use Rattle.host_io.specs.declared.barred_output.BarredOutput.{BarredOutput}
 use Rattle.host_io.specs.declared.barred_output.BarredOutput.TheVariants as barred
 
 -- ---- the file of a store
 
 -- Only a file that is made may be new.
-abbrev pub is_made : StoreUse → Bool
-is_made Make = true
-is_made Write = false
-is_made Read = false
+abbrev pub is_made : Access → Bool
+is_made Makes = true
+is_made Changes = false
+is_made Reads = false
 
 -- A file that is only read is not open to be written to.
-abbrev pub is_written : StoreUse → Bool
-is_written Make = true
-is_written Write = true
-is_written Read = false
-
--- Whether what words ask for changes the store.
-abbrev pub changes : Option StoreUse → Bool
-changes None = false
-changes (Some usage) = is_written usage
+abbrev pub is_written : Access → Bool
+is_written Makes = true
+is_written Changes = true
+is_written Reads = false
 
 -- ---- standard output
 
--- Commands that write a stream, which a terminal does not take.
-unfoldable pub writes_stream : List (List ℕ) → Bool
-writes_stream [] = false
-writes_stream (word ∷ words) =
-    if is_word (codes "compose") word then true
-    else (if is_word (codes "export") word then true
-    else (if is_word (codes "send") word then true
-    else (if is_word (codes "restore") word then true else false)))
+-- Requests that write a stream, which a terminal does not take.
+abbrev pub writes_stream : Request → Bool
+writes_stream (Compose base files) = true
+writes_stream (Export base files) = true
+writes_stream (Pack file) = true
+writes_stream (Send store name) = true
+writes_stream (Restore store name) = true
+writes_stream (Audit guards base files) = false
+writes_stream (Dump file) = false
+writes_stream (Text file) = false
+writes_stream (Gen count seed) = false
+writes_stream (Trial count seed) = false
+writes_stream (Init store) = false
+writes_stream (Drop store name) = false
+writes_stream (Receive guards store files) = false
+writes_stream (ListAll store) = false
+writes_stream (Show store name) = false
+writes_stream (Cat store name path) = false
+writes_stream (Scrub store) = false
+writes_stream (Interleave store schedule turns) = false
 
 -- Why standard output may not be written: it is the store, or one of the files that are read, or a
 -- terminal that would get a stream.

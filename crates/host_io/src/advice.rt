@@ -4,8 +4,9 @@
 
 use crate::found::{Found, NoStream};
 use crate::missing::NamedKey;
-use crate::named_files::is_guard_word;
-use crate::nearly::{have_no_form, have_no_guard, have_no_parent, is_in_front, say_twice};
+use crate::nearly::{
+    have_no_form, have_no_guard, have_no_parent, is_guard_word, is_in_front, say_twice,
+};
 use file_disk::OpenStop;
 use std::alloc::{AllocError, Global};
 use std::io::ErrorKind;
@@ -97,7 +98,11 @@ const REFUSALS: [(&str, &str); 36] = [
         "this snapshot is not based on the one before it: if these are two chains, merge each \
         alone; else leave out the streams that the last snapshot does not need",
     ),
-    ("BadText", "this is not what a text of a stream has there"),
+    (
+        "BadText",
+        "each line has to be as `text` prints it: all fields of the command in their order, each \
+        value in its one form, and END last",
+    ),
 ];
 
 // About the other messages, by how they begin.
@@ -256,6 +261,8 @@ pub(crate) fn about_found(words: &[String], found: Found) -> Option<&'static str
     match found {
         Found::NoStream(what) => Some(about_no_stream(what)),
         Found::StreamAsStore => Some(about_no_store(words)),
+        Found::StreamAsText => Some(STREAM_AS_TEXT),
+        Found::NoHeader => Some(NO_HEADER),
         Found::Begun => Some(BEGUN),
         Found::Unfinished => Some(UNFINISHED),
         Found::Nothing | Found::Missing(_) | Found::Restored(..) => None,
@@ -286,6 +293,10 @@ fn about_no_store(words: &[String]) -> &'static str {
         _ => "this is a stream and no store: `init` makes a store, and `receive` fills it",
     }
 }
+
+const STREAM_AS_TEXT: &str = "this is a stream and no text: `text` prints it as one";
+
+const NO_HEADER: &str = "a text begins with the line `stream 1` or `stream 2`";
 
 const BEGUN: &str =
     "the snapshot that it names is unfinished in the store: `drop` it, and receive its stream \

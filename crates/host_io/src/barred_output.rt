@@ -1,12 +1,12 @@
 // When standard output may not take what a command writes.
-ghost use Rattle.std.specs.Prelude.{◌≡◌, ◌≤◌, None, map};
-ghost use Rattle.std.specs.String.{string_bytes};
+ghost use Rattle.std.specs.Prelude.{◌≡◌, ◌≤◌, None};
+ghost use Rattle.command_line.specs.Meaning.{request_meant};
 ghost use Rattle.sx_base.specs.Causes.{Rose};
 ghost use Rattle.host_io.specs.Edge.{barred_for, writes_stream};
 
 use crate::advice::{TO_A_TERMINAL, TO_ITSELF, TO_THE_STORE};
-use crate::named_files::{NamedFiles, is_output};
-use send_top::store_word;
+use crate::named_files::{have_output, is_output};
+use command_line::Request;
 use std::io::IsTerminal;
 use sx_base::{Failed, Sink};
 
@@ -32,12 +32,16 @@ impl BarredOutput {
     }
 }
 
-/// Why standard output may not take what these words write, if it may not.
-pub(crate) fn barred_output(rt: &HostRuntime, words: &[String]) -> Option<BarredOutput> {
+/// Why standard output may not take what a request writes, if it may not.
+pub(crate) fn barred_output(
+    rt: &HostRuntime,
+    request: Option<&Request<'_>>,
+) -> Option<BarredOutput> {
+    let request = request?;
     barred_for(
-        is_store(rt, words),
-        NamedFiles::of(words).have_output(rt),
-        writes_stream(words) && rt.stdout().is_terminal(),
+        is_store(rt, request),
+        have_output(rt, request),
+        writes_stream(request) && rt.stdout().is_terminal(),
     )
 }
 
@@ -58,28 +62,37 @@ fn barred_for(is_store: bool, is_input: bool, is_stream_to_terminal: bool) -> Op
     None
 }
 
-// Whether standard output is the file of the store that words name.
-fn is_store(rt: &HostRuntime, words: &[String]) -> bool {
-    match store_word(words) {
-        Some(store) => is_output(rt, store),
+// Whether standard output is the file of the store of a request.
+fn is_store(rt: &HostRuntime, request: &Request<'_>) -> bool {
+    match request.store() {
+        Some(store) => is_output(rt, store.file),
         None => false,
     }
 }
 
-// Whether words ask for a stream on standard output.
-#[tactic(auto, unfolding(crate::specs::Edge::writes_stream))]
-fn writes_stream(words: &[String]) -> bool
-    ensures { result ≡ writes_stream (map string_bytes words.now) }
+// Whether a request writes a stream to standard output.
+fn writes_stream(request: &Request<'_>) -> bool
+    ensures { result ≡ writes_stream (request_meant request.now) }
 {
-    let Some(word) = words.first() else {
-        return false;
-    };
-    match word.as_str() {
-        "compose" => true,
-        "export" => true,
-        "send" => true,
-        "restore" => true,
-        _ => false,
+    match request {
+        Request::Compose { .. } => true,
+        Request::Export { .. } => true,
+        Request::Send { .. } => true,
+        Request::Restore { .. } => true,
+        Request::Audit { .. } => false,
+        Request::Dump { .. } => false,
+        Request::Text { .. } => false,
+        Request::Pack { .. } => true,
+        Request::Gen { .. } => false,
+        Request::Trial { .. } => false,
+        Request::Init { .. } => false,
+        Request::Drop { .. } => false,
+        Request::Receive { .. } => false,
+        Request::List { .. } => false,
+        Request::Show { .. } => false,
+        Request::Cat { .. } => false,
+        Request::Scrub { .. } => false,
+        Request::Interleave { .. } => false,
     }
 }
 

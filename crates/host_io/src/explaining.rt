@@ -3,14 +3,16 @@
 use crate::advice::{
     about_found, about_input, about_note, about_refusal, about_restored, about_store, about_words,
 };
-use crate::found::{Asked, Found, find_key, find_name, find_no_store, find_no_stream};
+use crate::found::{
+    Asked, Found, find_key, find_name, find_no_store, find_no_stream, find_no_text,
+};
 use crate::kept_notes::{KeptNotes, word_of};
-use crate::named_files::{NamedFiles, read_twice};
+use crate::named_files::{file_named, store_named};
 use crate::path_inputs::PathInputs;
 use crate::statuses::{INPUT_FAULT, MISSING, NOT_STORE, REFUSED, STORE_FAULT, USAGE};
+use command_line::{How, Request};
 use file_disk::OpenStop;
 use guard_rules::number_of;
-use send_top::store_word;
 use std::alloc::{AllocError, Global};
 use std::env;
 use std::fs::{File, Files};
@@ -69,14 +71,14 @@ fn line_about<R: Files<File = File>>(
         STORE_FAULT => push_store_fault(ended, &mut line)?,
         NOT_STORE => {
             let found = find_no_store(files, asked);
-            push_store_name(asked.words, &mut line)?;
+            push_store_name(asked, &mut line)?;
             push_found(asked.words, note, &found, &mut line)?;
         }
         MISSING => {
             let found = find_name(files, asked, note);
             push_found(asked.words, note, &found, &mut line)?;
         }
-        _ => push_other(asked.words, note, &mut line)?,
+        _ => push_other(asked, note, &mut line)?,
     }
     line.push_all(b"\n")?;
     Ok(line)
@@ -87,6 +89,7 @@ fn found_refused<R: Files<File = File>>(files: &R, asked: Asked<'_>, note: &[u8]
     match word_of(note, 5) {
         b"NoParent" | b"NoSource" => find_key(files, asked, note),
         b"BadMagic" => find_no_stream(files, asked, note),
+        b"BadText" => find_no_text(files, asked, note),
         _ => Found::Nothing,
     }
 }
@@ -98,7 +101,7 @@ fn push_refused(
     found: &Found,
     line: &mut Blob,
 ) -> Result<(), AllocError> {
-    push_file(word_of(note, 1), NamedFiles::of(asked.words), line)?;
+    push_file(word_of(note, 1), asked, line)?;
     line.push_all(part_of(word_of(note, 5)))?;
     line.push_all(word_of(note, 2))?;
     line.push_all(b": ")?;
@@ -130,13 +133,21 @@ fn part_of(refusal: &[u8]) -> &'static [u8] {
     }
 }
 
+// Whether each file is read twice.
+fn reads_twice(request: Option<&Request<'_>>) -> bool {
+    match request {
+        Some(request) => request.reading() == How::Twice,
+        None => false,
+    }
+}
+
 // Which file could not be read, the system's reason, and what to do about it.
 fn push_input_fault<R: Files>(
     asked: Asked<'_>,
     inputs: &PathInputs<'_, R>,
     line: &mut Blob,
 ) -> Result<(), AllocError> {
-    let again = read_twice(asked.words);
+    let again = reads_twice(asked.request);
     let Some(reason) = inputs.failed_reason() else {
         return line.push_all(about_input("", None, again).as_bytes());
     };
@@ -148,10 +159,14 @@ fn push_input_fault<R: Files>(
 
 // Why the store could not be opened, or that its device failed, and what to do about it.
 fn push_store_fault(ended: EndedRun<'_>, line: &mut Blob) -> Result<(), AllocError> {
-    let words = ended.asked.words;
-    let said = store_reason(ended.asked.alloc, ended.why)?;
-    push_reason(store_word(words).unwrap_or(""), said.as_str(), line)?;
-    line.push_all(about_store(words, ended.why).as_bytes())
+    let asked = ended.asked;
+    let said = store_reason(asked.alloc, ended.why)?;
+    push_reason(
+        store_named(asked.request).unwrap_or(""),
+        said.as_str(),
+        line,
+    )?;
+    line.push_all(about_store(asked.words, ended.why).as_bytes())
 }
 
 fn store_reason(alloc: Global, why: Option<&OpenStop>) -> Result<String, AllocError> {
@@ -193,18 +208,17 @@ fn about_any(note: &[u8]) -> &'static str {
 }
 
 // What another note speaks of, and what to do about it.
-fn push_other(words: &[String], note: &[u8], line: &mut Blob) -> Result<(), AllocError> {
-    let files = NamedFiles::of(words);
+fn push_other(asked: Asked<'_>, note: &[u8], line: &mut Blob) -> Result<(), AllocError> {
     if note.starts_with(b"input too long ") {
-        push_file(word_of(note, 3), files, line)?;
+        push_file(word_of(note, 3), asked, line)?;
         line.push_all(b": ")?;
     } else if note.starts_with(b"input changed ") {
-        push_file(word_of(note, 2), files, line)?;
+        push_file(word_of(note, 2), asked, line)?;
         line.push_all(b": ")?;
     } else if is_about_store(note) {
-        push_store_name(words, line)?;
+        push_store_name(asked, line)?;
     }
-    push_found(words, note, &Found::Nothing, line)
+    push_found(asked.words, note, &Found::Nothing, line)
 }
 
 // Whether a note speaks of the store.
@@ -215,8 +229,8 @@ fn is_about_store(note: &[u8]) -> bool {
 }
 
 // The name of the store, if there is one.
-fn push_store_name(words: &[String], line: &mut Blob) -> Result<(), AllocError> {
-    let Some(name) = store_word(words) else {
+fn push_store_name(asked: Asked<'_>, line: &mut Blob) -> Result<(), AllocError> {
+    let Some(name) = store_named(asked.request) else {
         return Ok(());
     };
     escape_into(name.as_bytes(), line)?;
@@ -224,11 +238,11 @@ fn push_store_name(words: &[String], line: &mut Blob) -> Result<(), AllocError> 
 }
 
 // The name of the file of a number, which is counted from 1.
-fn push_file(number: &[u8], files: NamedFiles<'_>, line: &mut Blob) -> Result<(), AllocError> {
+fn push_file(number: &[u8], asked: Asked<'_>, line: &mut Blob) -> Result<(), AllocError> {
     let Some(number) = number_of(number) else {
         return Ok(());
     };
-    match files.named(number) {
+    match file_named(asked.request, number) {
         Some(name) => escape_into(name.as_bytes(), line),
         None => Ok(()),
     }

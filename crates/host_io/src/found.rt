@@ -1,12 +1,12 @@
 // What is found in the files and in the store of a run that failed, for its explanation.
 use crate::kept_notes::word_of;
 use crate::missing::{NamedKey, key_refused};
-use crate::named_files::{NamedFiles, bytes_of};
+use crate::named_files::{bytes_of, file_named, store_named};
 use crate::path_inputs::PathInputs;
 use crate::stored::StoredList;
+use command_line::{How, Request};
 use escaped_words::meant_by;
 use guard_rules::number_of;
-use send_top::store_word;
 use std::alloc::Global;
 use std::fs::{File, Files};
 use sx_base::{Blob, Inputs, escape_into};
@@ -38,6 +38,10 @@ pub(crate) enum Found {
     NoStream(NoStream),
     /// The store is a stream.
     StreamAsStore,
+    /// The text is a stream.
+    StreamAsText,
+    /// A text does not begin as one.
+    NoHeader,
     /// The parent or the source that is missing.
     Missing(NamedKey),
     /// The store has it with this CTRANSID.
@@ -61,24 +65,24 @@ pub(crate) enum NoStream {
     Behind,
 }
 
-/// The words of a run, and where memory comes from.
+/// The words of a run, what they ask for, and where memory comes from.
 #[derive(Debug, Clone, Copy)]
 pub(crate) struct Asked<'a> {
     pub(crate) alloc: Global,
     pub(crate) words: &'a [String],
+    pub(crate) request: Option<&'a Request<'a>>,
 }
 
 /// What is found out about a parent or a source that is missing: what the command names, and what
 /// the store has.
 pub(crate) fn find_key<R: Files<File = File>>(files: &R, asked: Asked<'_>, note: &[u8]) -> Found {
-    let named = NamedFiles::of(asked.words);
-    let Some(key) = key_refused(files, asked.alloc, named, note) else {
+    let Some(key) = key_refused(files, asked.alloc, asked.request, note) else {
         return Found::Nothing;
     };
-    if named.said().is_empty() {
+    if takes_turns(asked.request) {
         return Found::Missing(key);
     }
-    let Some(list) = StoredList::of(files, asked.alloc, asked.words) else {
+    let Some(list) = StoredList::of(files, asked.alloc, store_named(asked.request)) else {
         return Found::Missing(key);
     };
     if list.begun(key.uuid) {
@@ -87,6 +91,14 @@ pub(crate) fn find_key<R: Files<File = File>>(files: &R, asked: Asked<'_>, note:
     match list.ctransid_of(key.uuid) {
         Some(stored) if stored != key.ctransid => Found::Restored(key, stored),
         _ => Found::Missing(key),
+    }
+}
+
+// Whether files take turns, of which nothing can be said in front.
+fn takes_turns(request: Option<&Request<'_>>) -> bool {
+    match request {
+        Some(request) => request.reading() == How::InTurns,
+        None => false,
     }
 }
 
@@ -103,7 +115,7 @@ pub(crate) fn find_no_stream<R: Files>(files: &R, asked: Asked<'_>, note: &[u8])
 
 // What the file is that a note names, if that can be told.
 fn no_stream_in<R: Files>(files: &R, asked: Asked<'_>, note: &[u8]) -> Option<NoStream> {
-    let name = NamedFiles::of(asked.words).named(number_of(word_of(note, 1))?)?;
+    let name = file_named(asked.request, number_of(word_of(note, 1))?)?;
     if name.as_bytes().ends_with(b".info") {
         return Some(NoStream::SideFile);
     }
@@ -116,17 +128,28 @@ fn no_stream_in<R: Files>(files: &R, asked: Asked<'_>, note: &[u8]) -> Option<No
     None
 }
 
+/// What is found out about a text of which a line is wrong.
+pub(crate) fn find_no_text<R: Files>(files: &R, asked: Asked<'_>, note: &[u8]) -> Found {
+    if word_of(note, 2) != b"1".as_slice() {
+        return Found::Nothing;
+    }
+    match is_stream(files, asked, file_named(asked.request, 1)) {
+        Some(true) => Found::StreamAsText,
+        _ => Found::NoHeader,
+    }
+}
+
 /// What is found out about a store that is none.
 pub(crate) fn find_no_store<R: Files>(files: &R, asked: Asked<'_>) -> Found {
-    match is_stream(files, asked) {
+    match is_stream(files, asked, store_named(asked.request)) {
         Some(true) => Found::StreamAsStore,
         _ => Found::Nothing,
     }
 }
 
-// Whether the file of the store begins as a stream.
-fn is_stream<R: Files>(files: &R, asked: Asked<'_>) -> Option<bool> {
-    let front = Front::of(files, asked.alloc, store_word(asked.words)?)?;
+// Whether the file of a name begins as a stream.
+fn is_stream<R: Files>(files: &R, asked: Asked<'_>, name: Option<&str>) -> Option<bool> {
+    let front = Front::of(files, asked.alloc, name?)?;
     Some(front.as_slice().starts_with(STREAM))
 }
 
@@ -158,7 +181,7 @@ pub(crate) fn find_name<R: Files<File = File>>(files: &R, asked: Asked<'_>, note
     if !is_whole(note) || !is_asked_for(asked, name) {
         return Found::Nothing;
     }
-    match StoredList::of(files, asked.alloc, asked.words) {
+    match StoredList::of(files, asked.alloc, store_named(asked.request)) {
         Some(list) if list.begun_as(name) => Found::Unfinished,
         _ => Found::Nothing,
     }

@@ -19,6 +19,8 @@ usage: btrsend audit [GUARD..] STORE|none [OVERRIDE..] FILE ..
        btrsend send STORE NAME > STREAM
        btrsend interleave STORE SCHEDULE [GUARD..] FILE ..
        btrsend dump FILE
+       btrsend text FILE > TEXT
+       btrsend pack FILE > STREAM
        btrsend gen COUNT SEED > CHAIN
        btrsend trial COUNT SEED
        btrsend --help | --version
@@ -65,6 +67,8 @@ More:
             is the number of a FILE, from 0, of which one command is received. Then each FILE goes
             on to its end. If one is refused, the others go on. GUARDs come before their FILE
   dump      prints the commands of FILE, a line each
+  text      prints the streams of FILE in full, as a text to edit, to compare and to keep
+  pack      writes the streams that such a text in FILE means, in one spelling
 
 For testing:
 

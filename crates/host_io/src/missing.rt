@@ -1,7 +1,8 @@
 // The snapshot that a refused command names and that is not there.
 use crate::kept_notes::word_of;
-use crate::named_files::{NamedFiles, bytes_of};
+use crate::named_files::{bytes_of, file_named};
 use crate::path_inputs::PathInputs;
+use command_line::Request;
 use guard_rules::number_of;
 use std::alloc::Global;
 use std::fs::Files;
@@ -26,10 +27,10 @@ pub(crate) struct NamedKey {
 pub(crate) fn key_refused<R: Files>(
     files: &R,
     alloc: Global,
-    named: NamedFiles<'_>,
+    request: Option<&Request<'_>>,
     note: &[u8],
 ) -> Option<NamedKey> {
-    let name = named.named(number_of(word_of(note, 1))?)?;
+    let name = file_named(request, number_of(word_of(note, 1))?)?;
     let offset = number_of(word_of(note, 3))?;
     bytes_of(files, name)?;
     let mut inputs = PathInputs::new(files, alloc);

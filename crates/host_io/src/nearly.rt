@@ -1,5 +1,4 @@
 // What is wrong with arguments that nearly fit.
-use crate::named_files::{NamedFiles, guard_words, is_guard_word};
 use escaped_words::meant_len;
 use file_words::are_given;
 use guard_rules::parse_guard;
@@ -19,9 +18,9 @@ pub(crate) fn have_no_form(words: &[String]) -> bool {
     false
 }
 
-/// Whether one of the words that may give guards begins so and gives none.
+/// Whether one of the words begins as a guard and gives none.
 pub(crate) fn have_no_guard(words: &[String]) -> bool {
-    for word in guard_words(words) {
+    for word in words {
         if is_guard_word(word.as_str()) && parse_guard(word.as_str()).is_none() {
             return true;
         }
@@ -29,9 +28,9 @@ pub(crate) fn have_no_guard(words: &[String]) -> bool {
     false
 }
 
-/// Whether one of the words that may say a parent begins so and says none.
+/// Whether one of the words begins as a parent and says none.
 pub(crate) fn have_no_parent(alloc: Global, words: &[String]) -> Result<bool, AllocError> {
-    for word in NamedFiles::of(words).said() {
+    for word in words {
         if is_parent_word(word.as_str()) && !says_parent(alloc, word.as_str())? {
             return Ok(true);
         }
@@ -49,7 +48,6 @@ fn says_parent(alloc: Global, word: &str) -> Result<bool, AllocError> {
 
 /// Whether two words in front of one file give it a name each, or say one UUID twice.
 pub(crate) fn say_twice(words: &[String]) -> bool {
-    let words = NamedFiles::of(words).said();
     let mut front = 0;
     for place in 0..words.len() {
         if !is_in_front(words[place].as_str()) {
@@ -84,6 +82,11 @@ fn say_same(one: &str, other: &str) -> bool {
 /// Whether a word is to say something of the file behind it.
 pub(crate) fn is_in_front(word: &str) -> bool {
     is_name_word(word) || is_parent_word(word)
+}
+
+/// Whether a word is to be a guard's.
+pub(crate) fn is_guard_word(word: &str) -> bool {
+    word.as_bytes().starts_with(b"guard:")
 }
 
 fn is_name_word(word: &str) -> bool {

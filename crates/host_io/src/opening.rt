@@ -1,32 +1,33 @@
-// The store that words name, and how its file is opened.
-ghost use Rattle.std.specs.Prelude.{◌≡◌, IfOk, map};
-ghost use Rattle.std.specs.String.{string_bytes};
+// The store of a request, and how its file is opened.
+ghost use Rattle.std.specs.Prelude.{◌≡◌, IfOk};
 ghost use Rattle.file_disk.specs.State.{opened};
-ghost use Rattle.send_top.specs.Requests.{use_asked};
-ghost use Rattle.host_io.specs.Edge.{is_made, is_written, changes};
+ghost use Rattle.host_io.specs.Edge.{is_made, is_written};
 
+use command_line::{Access, Request};
 use file_disk::{FileDisk, OpenStop};
-use send_top::{StoreUse, store_use, store_word};
 use std::alloc::Global;
 use std::fs::{File, Files};
 
-/// The store that words name.
+/// The store of a request.
 #[derive(Drop)]
 pub(crate) enum Opened {
     /// It is open for what is done with it.
     Disk(FileDisk<File>),
-    /// They name none.
+    /// There is none.
     NoStore,
     /// It can not be opened.
     Stopped(OpenStop),
 }
 
-/// Opens the store that words name.
-pub(crate) fn open_store(rt: &HostRuntime, words: &[String]) -> Opened {
-    let (Some(path), Some(usage)) = (store_word(words), store_use(words)) else {
+/// Opens the store of a request.
+pub(crate) fn open_store(rt: &HostRuntime, request: Option<&Request<'_>>) -> Opened {
+    let Some(request) = request else {
         return Opened::NoStore;
     };
-    match open_as(rt, rt.alloc(), path, usage) {
+    let Some(store) = request.store() else {
+        return Opened::NoStore;
+    };
+    match open_as(rt, rt.alloc(), store.file, store.access) {
         Ok(disk) => Opened::Disk(disk),
         Err(why) => Opened::Stopped(why),
     }
@@ -38,23 +39,33 @@ fn open_as<R: Files<File = File>>(
     files: &R,
     alloc: Global,
     path: &str,
-    usage: StoreUse,
+    access: Access,
 ) -> Result<FileDisk<File>, OpenStop>
-    ensures { IfOk result (λ disk. disk ≡ opened disk.size (is_written usage) (is_made usage)) }
+    ensures { IfOk result (λ disk. disk ≡ opened disk.size (is_written access) (is_made access)) }
 {
-    match usage {
-        StoreUse::Make => FileDisk::create(files, alloc, path),
-        StoreUse::Write => FileDisk::open(files, alloc, path),
-        StoreUse::Read => FileDisk::open_to_read(files, alloc, path),
+    match access {
+        Access::Makes => FileDisk::create(files, alloc, path),
+        Access::Changes => FileDisk::open(files, alloc, path),
+        Access::Reads => FileDisk::open_to_read(files, alloc, path),
     }
 }
 
-/// Whether words ask for a change of the store that they name.
-pub(crate) fn changes_store(words: &[String]) -> bool
-    ensures { result ≡ changes (use_asked (map string_bytes words.now)) }
+/// Whether a request changes its store.
+pub(crate) fn changes_store(request: Option<&Request<'_>>) -> bool {
+    let Some(request) = request else {
+        return false;
+    };
+    match request.store() {
+        Some(store) => changes(store.access),
+        None => false,
+    }
+}
+
+fn changes(access: Access) -> bool
+    ensures { result ≡ is_written access }
 {
-    match store_use(words) {
-        Some(StoreUse::Make | StoreUse::Write) => true,
-        Some(StoreUse::Read) | None => false,
+    match access {
+        Access::Makes | Access::Changes => true,
+        Access::Reads => false,
     }
 }

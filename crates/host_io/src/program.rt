@@ -6,7 +6,7 @@ use crate::explaining::{EndedRun, explain, is_wanted};
 use crate::found::Asked;
 use crate::help::{HELP, VERSION};
 use crate::kept_notes::KeptNotes;
-use crate::named_files::{NamedFiles, bytes_of, do_turn, guard_words, is_guard_word};
+use crate::named_files::{all_bytes, bytes_of, file_named, store_named};
 use crate::no_disk::NoDisk;
 use crate::opening::{Opened, changes_store, open_store};
 use crate::out_sink::OutSink;
@@ -15,9 +15,10 @@ use crate::progress::{Progress, millis_of};
 use crate::screen::{AfterLine, Screen, end_line};
 use crate::standard_files::StandardFiles;
 use crate::statuses::{DONE, INPUT_FAULT, OUTPUT_FAULT};
+use command_line::{Request, parse};
 use file_disk::OpenStop;
-use guard_rules::{AnyGuard, Guard, parse_guard};
-use send_top::{Answer, run, status, store_word, write_note};
+use guard_rules::Guard;
+use send_top::{Answer, run, status, write_note};
 use std::alloc::{AllocError, Global};
 use std::cell::RefCell;
 use std::io::{ErrorKind, IsTerminal};
@@ -49,9 +50,15 @@ pub fn start(rt: &HostRuntime) -> ExitCode {
             Err(_) => answered(&Answer::Ended(Outcome::OutputFault), &mut notes),
         };
     }
-    let ran = match barred_output(rt, &words) {
-        None => run_over(rt, &words, &mut out, &mut notes),
-        Some(why) => run_barred(rt, &words, why, &mut notes),
+    let request = parse(&words);
+    let asked = Asked {
+        alloc: rt.alloc(),
+        words: &words,
+        request: request.as_ref(),
+    };
+    let ran = match barred_output(rt, asked.request) {
+        None => run_over(rt, asked, &mut out, &mut notes),
+        Some(why) => run_barred(rt, asked, why, &mut notes),
     };
     match ran {
         Ok(status) => ExitCode::from(status),
@@ -62,14 +69,14 @@ pub fn start(rt: &HostRuntime) -> ExitCode {
 // Runs the words over the store that they name.
 fn run_over<O: Sink, N: Sink>(
     rt: &HostRuntime,
-    words: &[String],
+    asked: Asked<'_>,
     out: &mut O,
     notes: &mut KeptNotes<N>,
 ) -> Result<u8, AllocError> {
-    match open_store(rt, words) {
-        Opened::Disk(disk) => run_on(rt, words, out, notes, disk, None),
-        Opened::NoStore => run_on(rt, words, out, notes, NoDisk::new(), None),
-        Opened::Stopped(why) => run_on(rt, words, out, notes, NoDisk::new(), Some(why)),
+    match open_store(rt, asked.request) {
+        Opened::Disk(disk) => run_on(rt, asked, out, notes, disk, None),
+        Opened::NoStore => run_on(rt, asked, out, notes, NoDisk::new(), None),
+        Opened::Stopped(why) => run_on(rt, asked, out, notes, NoDisk::new(), Some(why)),
     }
 }
 
@@ -77,15 +84,15 @@ fn run_over<O: Sink, N: Sink>(
 // comes first. Nothing is read of the files, and nothing is changed.
 fn run_barred<N: Sink>(
     rt: &HostRuntime,
-    words: &[String],
+    asked: Asked<'_>,
     why: BarredOutput,
     notes: &mut KeptNotes<N>,
 ) -> Result<u8, AllocError> {
-    match open_store(rt, words) {
-        Opened::Disk(_) if changes_store(words) => Ok(bar(why, notes)),
-        Opened::Disk(disk) => run_unread(rt, words, why, notes, disk, None),
-        Opened::NoStore => run_unread(rt, words, why, notes, NoDisk::new(), None),
-        Opened::Stopped(stop) => run_unread(rt, words, why, notes, NoDisk::new(), Some(stop)),
+    match open_store(rt, asked.request) {
+        Opened::Disk(_) if changes_store(asked.request) => Ok(bar(why, notes)),
+        Opened::Disk(disk) => run_unread(rt, asked, why, notes, disk, None),
+        Opened::NoStore => run_unread(rt, asked, why, notes, NoDisk::new(), None),
+        Opened::Stopped(stop) => run_unread(rt, asked, why, notes, NoDisk::new(), Some(stop)),
     }
 }
 
@@ -93,28 +100,27 @@ fn run_barred<N: Sink>(
 // the answer is that the output is barred; else it is what the run says.
 fn run_unread<N: Sink, D: Disk + Drop>(
     rt: &HostRuntime,
-    words: &[String],
+    asked: Asked<'_>,
     why: BarredOutput,
     notes: &mut KeptNotes<N>,
     disk: D,
     stop: Option<OpenStop>,
 ) -> Result<u8, AllocError> {
-    let alloc = rt.alloc();
     let mut inputs = BarredInputs::new();
     let mut out = BarredSink::new();
-    let mut said = MemSink::new(alloc);
-    let status = run_and_close(alloc, words, &mut inputs, &mut out, &mut said, disk)?;
+    let mut said = MemSink::new(asked.alloc);
+    let status = run_and_close(asked, &mut inputs, &mut out, &mut said, disk)?;
     if let DONE | INPUT_FAULT | OUTPUT_FAULT = status {
         return Ok(bar(why, notes));
     }
     let _ = write_whole(notes, said.bytes());
     if is_wanted(rt) {
         let ended = EndedRun {
-            asked: Asked { alloc, words },
+            asked,
             status,
             why: stop.as_ref(),
         };
-        explain(ended, &PathInputs::new(rt, alloc), notes);
+        explain(ended, &PathInputs::new(rt, asked.alloc), notes);
     }
     Ok(status)
 }
@@ -133,21 +139,20 @@ fn bar<N: Sink>(why: BarredOutput, notes: &mut KeptNotes<N>) -> u8 {
 // says why.
 fn run_on<O: Sink, N: Sink, D: Disk + Drop>(
     rt: &HostRuntime,
-    words: &[String],
+    asked: Asked<'_>,
     out: &mut O,
     notes: &mut KeptNotes<N>,
     disk: D,
     why: Option<OpenStop>,
 ) -> Result<u8, AllocError> {
-    if let Some(shown) = what_to_show(rt, words) {
-        return run_shown(rt, words, shown, disk, why);
+    if let Some(shown) = what_to_show(rt, asked) {
+        return run_shown(rt, asked, shown, disk, why);
     }
-    let alloc = rt.alloc();
-    let mut inputs = PathInputs::new(rt, alloc);
-    let status = run_and_close(alloc, words, &mut inputs, out, notes, disk)?;
+    let mut inputs = PathInputs::new(rt, asked.alloc);
+    let status = run_and_close(asked, &mut inputs, out, notes, disk)?;
     if is_wanted(rt) {
         let ended = EndedRun {
-            asked: Asked { alloc, words },
+            asked,
             status,
             why: why.as_ref(),
         };
@@ -156,28 +161,30 @@ fn run_on<O: Sink, N: Sink, D: Disk + Drop>(
     Ok(status)
 }
 
-// Runs the words over a disk, which is closed then, with one guard for each guard word of `audit`
-// and `receive`.
+// Runs the words over a disk, which is closed then, under the guards that they give.
 fn run_and_close<I: Inputs, O: Sink, N: Sink, D: Disk + Drop>(
-    alloc: Global,
-    words: &[String],
+    asked: Asked<'_>,
     inputs: &mut I,
     out: &mut O,
     notes: &mut N,
     disk: D,
 ) -> Result<u8, AllocError> {
     let mut disk = disk;
-    let mut guards: Vec<Box<dyn Guard>> = Vec::new(alloc);
-    for word in guard_words(words) {
-        let Some(spec) = parse_guard(word.as_str()) else {
-            if do_turn(words) && !is_guard_word(word.as_str()) {
-                continue;
-            }
-            break;
-        };
-        guards.push(Box::new(alloc, AnyGuard::new(spec))?)?;
+    let mut guards: Vec<Box<dyn Guard>> = Vec::new(asked.alloc);
+    if let Some(request) = asked.request {
+        for guard in request.guards().new_guards(asked.alloc)? {
+            guards.push(Box::new(asked.alloc, guard)?)?;
+        }
     }
-    Ok(run(alloc, words, guards, inputs, out, notes, &mut disk))
+    Ok(run(
+        asked.alloc,
+        asked.words,
+        guards,
+        inputs,
+        out,
+        notes,
+        &mut disk,
+    ))
 }
 
 // What a run that says how far it is begins with.
@@ -194,7 +201,7 @@ struct Shown {
 // Runs the words, and shows meanwhile on standard error, a terminal, how far the run is.
 fn run_shown<D: Disk + Drop>(
     rt: &HostRuntime,
-    words: &[String],
+    asked: Asked<'_>,
     shown: Shown,
     disk: D,
     why: Option<OpenStop>,
@@ -204,9 +211,9 @@ fn run_shown<D: Disk + Drop>(
         first,
         store,
     } = shown;
-    let alloc = rt.alloc();
+    let alloc = asked.alloc;
     let screen = RefCell::new(Screen::new(OutSink::new(rt.stderr()), began));
-    let all = NamedFiles::of(words).all_bytes(rt);
+    let all = bytes_asked(rt, asked);
     let files = PathInputs::new(rt, alloc);
     let mut inputs = Progress::new(files, rt, &screen, alloc, first, all);
     let size = bytes_of(rt, store.as_str());
@@ -214,14 +221,14 @@ fn run_shown<D: Disk + Drop>(
     let mut notes = KeptNotes::new(AfterLine::new(OutSink::new(rt.stderr()), &screen));
     let status = if rt.stdout().is_terminal() {
         let mut out = AfterLine::new(OutSink::new(rt.stdout()), &screen);
-        run_and_close(alloc, words, &mut inputs, &mut out, &mut notes, disk)?
+        run_and_close(asked, &mut inputs, &mut out, &mut notes, disk)?
     } else {
         let mut out = OutSink::new(rt.stdout());
-        run_and_close(alloc, words, &mut inputs, &mut out, &mut notes, disk)?
+        run_and_close(asked, &mut inputs, &mut out, &mut notes, disk)?
     };
     end_line(&screen);
     let ended = EndedRun {
-        asked: Asked { alloc, words },
+        asked,
         status,
         why: why.as_ref(),
     };
@@ -231,21 +238,26 @@ fn run_shown<D: Disk + Drop>(
 
 // What to begin with if standard error is a terminal; nothing if there is no clock or no memory,
 // and for words that name neither a file nor a store.
-fn what_to_show(rt: &HostRuntime, words: &[String]) -> Option<Shown> {
+fn what_to_show(rt: &HostRuntime, asked: Asked<'_>) -> Option<Shown> {
     if !rt.stderr().is_terminal() {
         return None;
     }
     let began = millis_of(rt)?;
-    let first = NamedFiles::of(words).named(1).unwrap_or("");
-    let store = store_word(words).unwrap_or("");
+    let first = file_named(asked.request, 1).unwrap_or("");
+    let store = store_named(asked.request).unwrap_or("");
     if first.is_empty() && store.is_empty() {
         return None;
     }
     Some(Shown {
         began,
-        first: String::from_str(rt.alloc(), first).ok()?,
-        store: String::from_str(rt.alloc(), store).ok()?,
+        first: String::from_str(asked.alloc, first).ok()?,
+        store: String::from_str(asked.alloc, store).ok()?,
     })
+}
+
+// The bytes of all files that are read, if they are known.
+fn bytes_asked(rt: &HostRuntime, asked: Asked<'_>) -> Option<u64> {
+    all_bytes(rt, asked.request?)
 }
 
 // The words after the program's name. An error where there is no memory, or a word is not UTF-8.

@@ -4,7 +4,7 @@ use crate::barred_inputs::BarredInputs;
 use crate::statuses::DONE;
 use file_disk::FileDisk;
 use guard_rules::number_of;
-use send_top::{run, store_word};
+use send_top::run;
 use std::alloc::{AllocError, Global};
 use std::fs::{File, Files};
 use sx_base::MemSink;
@@ -17,14 +17,13 @@ pub(crate) struct StoredList {
 }
 
 impl StoredList {
-    /// The lines of the store that words name. None where they name no store, or it can not be
-    /// listed.
+    /// The lines of the store of a name. None where there is no store, or it can not be listed.
     pub(crate) fn of<R: Files<File = File>>(
         files: &R,
         alloc: Global,
-        words: &[String],
+        store: Option<&str>,
     ) -> Option<StoredList> {
-        let path = store_word(words)?;
+        let path = store?;
         let mut disk = FileDisk::open_to_read(files, alloc, path).ok()?;
         let asked = list_words(alloc, path).ok()?;
         let mut inputs = BarredInputs::new();

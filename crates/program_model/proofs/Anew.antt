@@ -1,25 +1,26 @@
--- The streams that are written of a stored subvolume make it anew; and words that only read keep
--- the image.
-use Rattle.std.specs.Prelude.{◌≡◌, ℕ, List, [], ◌∷◌, Option}
+-- The streams that are written of a stored snapshot make it anew; and requests that change no store
+-- keep the image.
+use Rattle.std.specs.Prelude.{◌≡◌, ℕ, List, [], Option}
 use Rattle.std.proofs.Common.{sym, ap, subst, ◌∙◌}
 use Rattle.send_model.specs.Store.{Entry, Store}
 use Rattle.send_model.specs.Subvolume.{Subvolume}
-use Rattle.store_model.specs.Requests.{OfStreams, InitStore, DropEntry, ReceiveFiles, ListStore, ShowEntry, CatFile, ScrubStore, word_at}
+use Rattle.send_model.specs.Due.{DoneWhole}
+use Rattle.send_model.specs.Due as files_due
+use Rattle.send_model.proofs.Sorts.{same_inside}
 use Rattle.store_model.specs.Dues.{complete_named}
 use Rattle.store_model.specs.Dues as dues
-use Rattle.send_model.specs.Due.{DoneWhole}
 use Rattle.snapshot_model.specs.Sent.{sent_stream}
 use Rattle.snapshot_model.specs.Restored.{restored_stream}
 use Rattle.snapshot_model.specs.HeldStores.{Form, IsSendDue}
 use Rattle.snapshot_model.specs.SentLaws.{FileIsReceivedAs}
 use Rattle.snapshot_model.specs.StoredLaws.{StoredIsReceived}
-use Rattle.send_model.proofs.Sorts.{same_inside}
+use Rattle.snapshot_model.specs.Promises.{IsReceivedAnew}
 use Rattle.snapshot_model.proofs.Holes.{image_is_one_held}
 use Rattle.snapshot_model.proofs.StoredSent.{sent_of_stores, restored_of_stores}
-use Rattle.store_model.proofs.AnswerLaws.{readers_keep_the_image}
-use Rattle.program_model.specs.AllRequests.{OfStore, SendEntry, RestoreEntry, TakeTurns, name_at}
-use Rattle.snapshot_model.specs.Promises.{IsReceivedAnew}
-use Rattle.program_model.specs.AllAnswers.{SentIsReceivedAnew, RestoredIsReceivedAnew, ReadersKeepTheImage}
+use Rattle.program_model.specs.Requests.{Base, Nothing, InStore, Compose, Audit, Dump, Text, Pack, Export, Gen, Trial, Init, Drop, Receive, ListAll, Show, Cat, Scrub, Send, Restore, Interleave}
+use Rattle.program_model.specs.Profiles.{profile}
+use Rattle.program_model.specs.Answers.{Answer, Done, Refused, Usage, InputFault, OutputFault, StoreFault, NoMemory, NoStore, IsMissing, IsFull, IsThere, IsDamaged, IsTooMuch, IsTooLong, InputChanged, Meaning, OfFiles, Says, of_files, of_store, of_base, read_again, packed_from, prints, scrubbed, sent_as}
+use Rattle.program_model.specs.AnswerMeanings.{SentIsReceivedAnew, RestoredIsReceivedAnew, ReadersKeepTheImage}
 
 abbrev Found : Type 0
 Found = Entry (Subvolume (Option ℕ)) × Subvolume (Option ℕ)
@@ -36,22 +37,127 @@ due_anew form image name written received due store stands found is other new =
     (received image name store found other stands is new)
 
 pub sent_is_received_anew : SentIsReceivedAnew
-sent_is_received_anew store name words image files written left says = due_anew sent_stream image (name_at words name) written sent_of_stores says.1
+unfolding Says
+sent_is_received_anew file name image bytes written left says = due_anew sent_stream image name written sent_of_stores says.1
 
 pub restored_is_received_anew : RestoredIsReceivedAnew
-restored_is_received_anew store name words image files written left says = due_anew restored_stream image (name_at words name) written restored_of_stores says.1
+unfolding Says
+restored_is_received_anew file name image bytes written left says = due_anew restored_stream image name written restored_of_stores says.1
+
+-- ---- stores that are only read
+
+-- Whatever is answered, the image is as it was.
+record Keeps (image : List ℕ) (meaning : Meaning) : Type 0 where
+  due : (due : dues.Due) (written left : List ℕ) → meaning.due due written left → left ≡ image
+  input : (written left : List ℕ) → meaning.input written left → left ≡ image
+  changed : (written left : List ℕ) → meaning.changed written left → left ≡ image
+  output : (written left : List ℕ) → meaning.output written left → left ≡ image
+  memory : (written left : List ℕ) → meaning.memory written left → left ≡ image
+  device : (written left : List ℕ) → meaning.device written left → left ≡ image
+
+keeps_says : (image : List ℕ) (meaning : Meaning) → Keeps image meaning → (answer : Answer) (written left : List ℕ) → Says meaning answer written left → left ≡ image
+unfolding Says
+keeps_says image meaning k Done written left h = k.due (dues.Ends DoneWhole) written left h
+keeps_says image meaning k (Refused verdict) written left h = k.due (dues.Ends (files_due.RefusedAt verdict)) written left h
+keeps_says image meaning k Usage written left h = absurd h
+keeps_says image meaning k InputFault written left h = k.input written left h
+keeps_says image meaning k OutputFault written left h = k.output written left h
+keeps_says image meaning k StoreFault written left h = k.device written left h
+keeps_says image meaning k NoMemory written left h = k.memory written left h
+keeps_says image meaning k (NoStore group) written left h = k.due (dues.NotStore group) written left h
+keeps_says image meaning k (IsMissing what) written left h = k.due (dues.Missing what) written left h
+keeps_says image meaning k (IsFull end wanted limit) written left h = k.due (dues.LogFull end wanted limit) written left h
+keeps_says image meaning k (IsThere size) written left h = k.due (dues.StoreThere size) written left h
+keeps_says image meaning k (IsDamaged group stored computed) written left h = k.due (dues.Damaged group stored computed) written left h
+keeps_says image meaning k (IsTooMuch sum) written left h = k.due (dues.Ends (files_due.TooMuch sum)) written left h
+keeps_says image meaning k (IsTooLong file) written left h = k.due (dues.Ends (files_due.TooLong file)) written left h
+keeps_says image meaning k (InputChanged file place) written left h = k.changed written left h
+
+module _ (image : List ℕ) where
+  files_keep : (of : OfFiles) → Keeps image (of_files image of)
+  files_keep of = record {
+    due = λ due written left h. h.1.0;
+    input = λ written left h. h.0;
+    changed = λ written left h. absurd h;
+    output = λ written left h. h.0;
+    memory = λ written left h. h.0;
+    device = λ written left h. absurd h;
+  }
+
+  store_keeps : (over : Store ℕ → OfFiles) → Keeps image (of_store image over)
+  store_keeps over = record {
+    due = λ due written left h. h.1.0;
+    input = λ written left h. h.0;
+    changed = λ written left h. absurd h;
+    output = λ written left h. h.0;
+    memory = λ written left h. h.0;
+    device = λ written left h. h.0;
+  }
+
+  base_keeps : (base : Base) (over : Store ℕ → OfFiles) → Keeps image (of_base base image over)
+  base_keeps Nothing over = files_keep (over [])
+  base_keeps (InStore store) over = store_keeps over
+
+  again_keeps : (meaning : Meaning) → Keeps image meaning → Keeps image (read_again meaning)
+  again_keeps meaning k = record { due = k.due; input = k.input; changed = k.input; output = k.output; memory = k.memory; device = k.device }
+
+  prints_keep : (due : Store ℕ → dues.Due) (whole : Store ℕ → List ℕ) → Keeps image (prints image due whole)
+  prints_keep due whole = record {
+    due = λ due written left h. h.1.0;
+    input = λ written left h. absurd h;
+    changed = λ written left h. absurd h;
+    output = λ written left h. h.0;
+    memory = λ written left h. h.0;
+    device = λ written left h. h.0;
+  }
+
+  pack_keeps : (text : List ℕ) → Keeps image (packed_from image text)
+  pack_keeps text = record {
+    due = λ due written left h. h.0;
+    input = λ written left h. h.0;
+    changed = λ written left h. absurd h;
+    output = λ written left h. h.0;
+    memory = λ written left h. h.0;
+    device = λ written left h. absurd h;
+  }
+
+  scrub_keeps : Keeps image (scrubbed image)
+  scrub_keeps = record {
+    due = λ due written left h. h.1.0;
+    input = λ written left h. absurd h;
+    changed = λ written left h. absurd h;
+    output = λ written left h. h.0;
+    memory = λ written left h. h.0;
+    device = λ written left h. h.0;
+  }
+
+  sent_keeps : (form : Form) (name : List ℕ) → Keeps image (sent_as form image name)
+  sent_keeps form name = record {
+    due = λ due written left h. h.0;
+    input = λ written left h. absurd h;
+    changed = λ written left h. absurd h;
+    output = λ written left h. h.0;
+    memory = λ written left h. h.0;
+    device = λ written left h. h.0;
+  }
 
 pub readers_keep : ReadersKeepTheImage
-readers_keep (OfStore (OfStreams request)) words image files answer written left only says = readers_keep_the_image (OfStreams request) words image files answer written left only says
-readers_keep (OfStore (InitStore store)) words image files answer written left only says = absurd only
-readers_keep (OfStore (DropEntry store name)) words image files answer written left only says = absurd only
-readers_keep (OfStore (ReceiveFiles guards store at)) words image files answer written left only says = absurd only
-readers_keep (OfStore (ListStore store)) words image files answer written left only says = readers_keep_the_image (ListStore store) words image files answer written left only says
-readers_keep (OfStore (ShowEntry store name)) words image files answer written left only says =
-    readers_keep_the_image (ShowEntry 0 1) (word_at words store ∷ name_at words name ∷ []) image files answer written left only says
-readers_keep (OfStore (CatFile store name path)) words image files answer written left only says =
-    readers_keep_the_image (CatFile 0 1 2) (word_at words store ∷ name_at words name ∷ name_at words path ∷ []) image files answer written left only says
-readers_keep (OfStore (ScrubStore store)) words image files answer written left only says = readers_keep_the_image (ScrubStore store) words image files answer written left only says
-readers_keep (SendEntry store name) words image files answer written left only says = says.0
-readers_keep (RestoreEntry store name) words image files answer written left only says = says.0
-readers_keep (TakeTurns store schedule turns) words image files answer written left only says = absurd only
+unfolding profile
+readers_keep (Compose base files) image bytes answer written left only = keeps_says image _ (again_keeps image _ (base_keeps image base _)) answer written left
+readers_keep (Audit guards base files) image bytes answer written left only = keeps_says image _ (base_keeps image base _) answer written left
+readers_keep (Export base files) image bytes answer written left only = keeps_says image _ (base_keeps image base _) answer written left
+readers_keep (Dump file) image bytes answer written left only = keeps_says image _ (files_keep image _) answer written left
+readers_keep (Text file) image bytes answer written left only = keeps_says image _ (files_keep image _) answer written left
+readers_keep (Pack file) image bytes answer written left only = keeps_says image _ (pack_keeps image _) answer written left
+readers_keep (Gen count seed) image bytes answer written left only = keeps_says image _ (files_keep image _) answer written left
+readers_keep (Trial count seed) image bytes answer written left only = keeps_says image _ (files_keep image _) answer written left
+readers_keep (Init store) image bytes answer written left only = absurd only
+readers_keep (Drop store name) image bytes answer written left only = absurd only
+readers_keep (Receive guards store files) image bytes answer written left only = absurd only
+readers_keep (ListAll store) image bytes answer written left only = keeps_says image _ (prints_keep image _ _) answer written left
+readers_keep (Show store name) image bytes answer written left only = keeps_says image _ (prints_keep image _ _) answer written left
+readers_keep (Cat store name path) image bytes answer written left only = keeps_says image _ (prints_keep image _ _) answer written left
+readers_keep (Scrub store) image bytes answer written left only = keeps_says image _ (scrub_keeps image) answer written left
+readers_keep (Send store name) image bytes answer written left only = keeps_says image _ (sent_keeps image sent_stream name) answer written left
+readers_keep (Restore store name) image bytes answer written left only = keeps_says image _ (sent_keeps image restored_stream name) answer written left
+readers_keep (Interleave store schedule turns) image bytes answer written left only = absurd only

@@ -5,8 +5,7 @@ pub mod TurnWords
 pub mod TurnGuards
 pub mod GivenWords
 pub mod ParentWords
-pub mod MeantByWords
+pub mod MeantByAnswers
+pub mod TextMeanings
 mod MeantExamples
-pub mod AnswersAgree
-pub mod RequestsAgree
 pub mod ReceivedFiles

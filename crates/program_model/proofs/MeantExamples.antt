@@ -1,10 +1,8 @@
 -- Worked examples of words through `escaped:`, of names of files and of their lengths, of how many
 -- files take turns, and of words that read.
 use Rattle.std.specs.Prelude.{◌≡◌, ℕ, List, [], ◌∷◌, ◌++◌, replicate, map, None, Some, is_some, true, codes, refl}
-use Rattle.send_model.specs.Words.{Compose, Export}
-use Rattle.store_model.specs.Requests.{OfStreams, InitStore, DropEntry, ReceiveFiles, ListStore, ShowEntry, CatFile, ScrubStore}
-use Rattle.program_model.specs.AllRequests.{OfStore, SendEntry, RestoreEntry, TakeTurns, TurnFiles, name_at, request_of}
-use Rattle.program_model.specs.AllAnswers.{ReadsFiles, ReadsOnly}
+use Rattle.send_model.specs.Overridden.{no_override}
+use Rattle.program_model.specs.Requests.{InStore, Compose, Export, Init, Drop, Receive, ListAll, Show, Cat, Scrub, Send, Restore, request_in}
 use Rattle.program_model.specs.FileWords.{given_name, overrides_in}
 use Rattle.program_model.proofs.RequestExamples.{words_read}
 
@@ -14,21 +12,16 @@ use Rattle.program_model.proofs.RequestExamples.{words_read}
 unfoldable blank : List ℕ
 blank = codes "escaped:x" ++ 0x5c ∷ codes "x20y"
 
-named_words : (request_of (codes "show" ∷ codes "st" ∷ blank ∷ []) ≡ Some (OfStore (ShowEntry 1 2)))
-    × (request_of (codes "drop" ∷ codes "st" ∷ blank ∷ []) ≡ Some (OfStore (DropEntry 1 2)))
-    × (request_of (codes "cat" ∷ codes "st" ∷ blank ∷ blank ∷ []) ≡ Some (OfStore (CatFile 1 2 3)))
-    × (request_of (codes "send" ∷ codes "st" ∷ blank ∷ []) ≡ Some (SendEntry 1 2))
-    × (request_of (codes "restore" ∷ codes "st" ∷ blank ∷ []) ≡ Some (RestoreEntry 1 2))
+named_words : (request_in (codes "show" ∷ codes "st" ∷ blank ∷ []) ≡ Some (Show (codes "st") (codes "x y")))
+    × (request_in (codes "drop" ∷ codes "st" ∷ blank ∷ []) ≡ Some (Drop (codes "st") (codes "x y")))
+    × (request_in (codes "cat" ∷ codes "st" ∷ blank ∷ blank ∷ []) ≡ Some (Cat (codes "st") (codes "x y") (codes "x y")))
+    × (request_in (codes "send" ∷ codes "st" ∷ blank ∷ []) ≡ Some (Send (codes "st") (codes "x y")))
+    × (request_in (codes "restore" ∷ codes "st" ∷ blank ∷ []) ≡ Some (Restore (codes "st") (codes "x y")))
 unfolding words_read blank
 named_words = (refl, refl, refl, refl, refl)
 
--- means that name
-blank_meant : name_at (codes "show" ∷ codes "st" ∷ blank ∷ []) 2 ≡ codes "x y"
-unfolding words_read blank
-blank_meant = refl
-
 -- a word that is no escaped form means nothing, wherever a name or a path stands
-not_forms : map request_of ((codes "show" ∷ codes "st" ∷ codes "escaped:\\" ∷ [])
+not_forms : map request_in ((codes "show" ∷ codes "st" ∷ codes "escaped:\\" ∷ [])
     ∷ (codes "drop" ∷ codes "st" ∷ codes "escaped:\\" ∷ [])
     ∷ (codes "send" ∷ codes "st" ∷ codes "escaped:\\" ∷ [])
     ∷ (codes "restore" ∷ codes "st" ∷ codes "escaped:\\" ∷ [])
@@ -41,11 +34,11 @@ unfolding words_read
 not_forms = refl
 
 -- where a store or a file stands, it is a word as any other
-plain_places : (request_of (codes "list" ∷ codes "escaped:\\" ∷ []) ≡ Some (OfStore (ListStore 1)))
-    × (request_of (codes "init" ∷ codes "escaped:\\" ∷ []) ≡ Some (OfStore (InitStore 1)))
-    × (request_of (codes "scrub" ∷ codes "escaped:\\" ∷ []) ≡ Some (OfStore (ScrubStore 1)))
-    × (request_of (codes "compose" ∷ codes "st" ∷ codes "escaped:\\" ∷ []) ≡ Some (OfStore (OfStreams (Compose 1 2))))
-    × (request_of (codes "receive" ∷ codes "st" ∷ codes "escaped:\\" ∷ []) ≡ Some (OfStore (ReceiveFiles [] 1 2)))
+plain_places : (request_in (codes "list" ∷ codes "escaped:\\" ∷ []) ≡ Some (ListAll (codes "escaped:\\")))
+    × (request_in (codes "init" ∷ codes "escaped:\\" ∷ []) ≡ Some (Init (codes "escaped:\\")))
+    × (request_in (codes "scrub" ∷ codes "escaped:\\" ∷ []) ≡ Some (Scrub (codes "escaped:\\")))
+    × (request_in (codes "compose" ∷ codes "st" ∷ codes "escaped:\\" ∷ []) ≡ Some (Compose (InStore (codes "st")) (record { files = codes "escaped:\\" ∷ []; overrides = no_override ∷ [] })))
+    × (request_in (codes "receive" ∷ codes "st" ∷ codes "escaped:\\" ∷ []) ≡ Some (Receive [] (codes "st") (record { files = codes "escaped:\\" ∷ []; overrides = no_override ∷ [] })))
 unfolding words_read
 plain_places = (refl, refl, refl, refl, refl)
 
@@ -62,29 +55,18 @@ unfolding words_read blank
 escaped_name = refl
 
 -- export takes names, and none behind the last file
-exported_words : (request_of (codes "export" ∷ codes "st" ∷ codes "name:two" ∷ codes "a" ∷ []) ≡ Some (OfStore (OfStreams (Export 1 2))))
-    × (request_of (codes "export" ∷ codes "st" ∷ codes "a" ∷ codes "name:two" ∷ []) ≡ None)
+exported_words : (request_in (codes "export" ∷ codes "st" ∷ codes "name:two" ∷ codes "a" ∷ []) ≡ Some (Export (InStore (codes "st")) (record { files = codes "a" ∷ []; overrides = record { name = Some (codes "two"); parents = [] } ∷ [] })))
+    × (request_in (codes "export" ∷ codes "st" ∷ codes "a" ∷ codes "name:two" ∷ []) ≡ None)
 unfolding words_read
 exported_words = (refl, refl)
 
 -- ---- files that take turns
 
 -- ten files, and no more
-ten_files : is_some (request_of (codes "interleave" ∷ codes "st" ∷ codes "9" ∷ replicate 10 (codes "a"))) ≡ true
+ten_files : is_some (request_in (codes "interleave" ∷ codes "st" ∷ codes "9" ∷ replicate 10 (codes "a"))) ≡ true
 unfolding words_read
 ten_files = refl
 
-eleven_files : request_of (codes "interleave" ∷ codes "st" ∷ codes "9" ∷ replicate 11 (codes "a")) ≡ None
+eleven_files : request_in (codes "interleave" ∷ codes "st" ∷ codes "9" ∷ replicate 11 (codes "a")) ≡ None
 unfolding words_read
 eleven_files = refl
-
--- ---- words that read
-
-turns_read_files : (turns : TurnFiles) → ReadsFiles (TakeTurns 1 (0 ∷ []) turns)
-turns_read_files turns = tt
-
-sends_only_read : ReadsOnly (SendEntry 1 2) × ReadsOnly (RestoreEntry 1 2) × ReadsOnly (OfStore (ListStore 1)) × ReadsOnly (OfStore (ShowEntry 1 2)) × ReadsOnly (OfStore (CatFile 1 2 3)) × ReadsOnly (OfStore (ScrubStore 1))
-sends_only_read = (tt, tt, tt, tt, tt, tt)
-
-turns_change : (turns : TurnFiles) → ReadsOnly (TakeTurns 1 (0 ∷ []) turns) → ⊥
-turns_change turns h = h

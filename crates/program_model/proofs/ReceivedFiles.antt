@@ -1,7 +1,7 @@
 -- A request that puts files into a store names some.
-use Rattle.std.specs.Prelude.{◌≡◌, ◌≢◌, ⊤, ℕ, Bool, true, false, ◌&&◌, List, [], ◌∷◌, length, Option, None, Some, nat_le, if◌then◌else◌, codes}
+use Rattle.std.specs.Prelude.{◌≡◌, ◌≢◌, ⊤, ℕ, Bool, true, false, ◌&&◌, List, [], ◌∷◌, length, Option, None, Some, nat_le, if◌then◌else◌}
 use Rattle.std.specs.Option.{option_map}
-use Rattle.std.proofs.Common.{refl, sym, ap, subst, ◌∙◌}
+use Rattle.std.proofs.Common.{refl, subst}
 use Rattle.send_model.specs.Guards.{GuardSpec, guard_of, is_guard_word, number_word}
 use Rattle.send_model.specs.Words.{is_word}
 use Rattle.send_model.proofs.Sorts.{same_inside}
@@ -9,13 +9,15 @@ use Rattle.store_model.specs.Turns.{schedule_of}
 use Rattle.program_model.specs.EscapedWords.{meant_by}
 use Rattle.program_model.specs.FileWords.{GivenFiles, given_in}
 use Rattle.program_model.specs.TurnWords.{TurnFiles, turn_files, are_turns}
-use Rattle.program_model.specs.Requests.{Base, Request, Arguments, Usage, Compose, Audit, Dump, Export, Gen, Trial, Init, Drop, Receive, ListAll, Show, Cat, Scrub, Send, Restore, Interleave, a_store, a_snapshot, a_path, a_file, some_files, base_of_word, a_base_and_files, a_store_and_files, with_one_more, guarded, is_count, of_numbers, two_numbers, scheduled, a_schedule, commands, taken_by, request_in}
+use Rattle.program_model.specs.Requests.{Base, Request, Arguments, Usage, Compose, Audit, Dump, Text, Pack, Export, Gen, Trial, Init, Drop, Receive, ListAll, Show, Cat, Scrub, Send, Restore, Interleave, a_store, a_snapshot, a_path, a_file, some_files, base_of_word, a_base_and_files, a_store_and_files, with_one_more, guarded, is_count, of_numbers, two_numbers, scheduled, a_schedule, commands, taken_by, request_in}
 use Rattle.program_model.proofs.GivenWords.{files_stand}
 
 abbrev NamesSome : Request → Type 0
 NamesSome (Compose base files) = ⊤
 NamesSome (Audit guards base files) = ⊤
 NamesSome (Dump file) = ⊤
+NamesSome (Text file) = ⊤
+NamesSome (Pack file) = ⊤
 NamesSome (Export base files) = ⊤
 NamesSome (Gen count seed) = ⊤
 NamesSome (Trial count seed) = ⊤
@@ -146,30 +148,39 @@ all_give = (
     (
       file_gives Dump (λ file. tt),
       (
-        base_gives Export (λ base files. tt),
+        file_gives Text (λ file. tt),
         (
-          numbers_give Gen (λ count seed. tt),
+          file_gives Pack (λ file. tt),
           (
-            numbers_give Trial (λ count seed. tt),
+            base_gives Export (λ base files. tt),
             (
-              store_gives Init (λ store. tt),
+              numbers_give Gen (λ count seed. tt),
               (
-                snapshot_gives Drop (λ store name. tt),
+                numbers_give Trial (λ count seed. tt),
                 (
-                  guarded_give (λ guards. a_store_and_files (Receive guards)) (λ guards. store_files_give (Receive guards) (λ store files some. some)),
+                  store_gives Init (λ store. tt),
                   (
-                    store_gives ListAll (λ store. tt),
+                    snapshot_gives Drop (λ store name. tt),
                     (
-                      snapshot_gives Show (λ store name. tt),
+                      guarded_give (λ guards. a_store_and_files (Receive guards)) (λ guards. store_files_give (Receive guards) (λ store files some. some)),
                       (
-                        path_gives Cat (λ store name path. tt),
+                        store_gives ListAll (λ store. tt),
                         (
-                          store_gives Scrub (λ store. tt),
+                          snapshot_gives Show (λ store name. tt),
                           (
-                            snapshot_gives Send (λ store name. tt),
+                            path_gives Cat (λ store name path. tt),
                             (
-                              snapshot_gives Restore (λ store name. tt),
-                              (schedule_gives, tt),
+                              store_gives Scrub (λ store. tt),
+                              (
+                                snapshot_gives Send (λ store name. tt),
+                                (
+                                  snapshot_gives Restore (λ store name. tt),
+                                  (
+                                    schedule_gives,
+                                    tt,
+                                  ),
+                                ),
+                              ),
                             ),
                           ),
                         ),

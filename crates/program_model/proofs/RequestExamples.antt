@@ -3,68 +3,73 @@ use Rattle.std.specs.Prelude.{◌≡◌, ◌-◌, ◌^◌, ℕ, List, [], ◌∷
 use Rattle.std.specs.Fmt.{digits}
 use Rattle.uuid.specs.Text.{by_index}
 use Rattle.send_model.specs.Guards.{MostBytes, NoDevices, guard_of}
-use Rattle.send_model.specs.Words as streams
-use Rattle.send_model.specs.Words.{Compose, Audit, Dump}
-use Rattle.store_model.specs.Requests as stored
-use Rattle.store_model.specs.Requests.{OfStreams, ReceiveFiles, ScrubStore, CatFile, DropEntry}
 use Rattle.send_model.specs.Printed.{is_plain, hex_digit, uuid_text}
 use Rattle.program_model.specs.EscapedWords.{hex_value, unescaped, meant_by}
 use Rattle.store_model.specs.Turns.{schedule_of}
-use Rattle.program_model.specs.AllRequests.{OfStore, SendEntry, RestoreEntry, TakeTurns, turn_files, of_subvolumes, request_read, request_of}
+use Rattle.program_model.specs.TurnWords.{turn_files}
+use Rattle.program_model.specs.Requests.{Nothing, InStore, Compose, Audit, Dump, Text, Pack, Drop, Receive, Cat, Scrub, Send, Restore, Interleave, guarded, commands, taken_by, request_in}
 use Rattle.program_model.specs.FileWords.{given_parent, given_from, given_in}
 use Rattle.send_model.specs.Overridden.{no_override}
 use Rattle.send_model.proofs.ExampleWords.{key}
 use Rattle.store_model.specs.StoreLines.{parent_text}
 
 unfoldable pub words_read : Unit {0}
-unfolding streams.request_of streams.guards_and_files stored.over_store stored.request_of guard_of schedule_of turn_files of_subvolumes request_read given_from request_of unescaped hex_value is_plain digits hex_digit uuid_text by_index
+unfolding guard_of schedule_of turn_files given_from guarded commands taken_by request_in unescaped hex_value is_plain digits hex_digit uuid_text by_index
 words_read = tt
 
 -- a subvolume that is sent, and one that is restored
-sent_words : request_of (codes "send" ∷ codes "st" ∷ codes "a" ∷ []) ≡ Some (SendEntry 1 2)
+sent_words : request_in (codes "send" ∷ codes "st" ∷ codes "a" ∷ []) ≡ Some (Send (codes "st") (codes "a"))
 unfolding words_read
 sent_words = refl
 
-restored_words : request_of (codes "restore" ∷ codes "st" ∷ codes "a" ∷ []) ≡ Some (RestoreEntry 1 2)
+restored_words : request_in (codes "restore" ∷ codes "st" ∷ codes "a" ∷ []) ≡ Some (Restore (codes "st") (codes "a"))
 unfolding words_read
 restored_words = refl
 
 -- a word more means nothing
-one_more : request_of (codes "send" ∷ codes "st" ∷ codes "a" ∷ codes "b" ∷ []) ≡ None
+one_more : request_in (codes "send" ∷ codes "st" ∷ codes "a" ∷ codes "b" ∷ []) ≡ None
 unfolding words_read
 one_more = refl
 
 -- words on streams and over a store mean what they meant
-dumped_words : request_of (codes "dump" ∷ codes "a" ∷ []) ≡ Some (OfStore (OfStreams (Dump 1)))
+dumped_words : request_in (codes "dump" ∷ codes "a" ∷ []) ≡ Some (Dump (codes "a"))
 unfolding words_read
 dumped_words = refl
 
-scrubbed_words : request_of (codes "scrub" ∷ codes "st" ∷ []) ≡ Some (OfStore (ScrubStore 1))
+text_words : request_in (codes "text" ∷ codes "a" ∷ []) ≡ Some (Text (codes "a"))
+unfolding words_read
+text_words = refl
+
+pack_words : request_in (codes "pack" ∷ codes "a" ∷ []) ≡ Some (Pack (codes "a"))
+unfolding words_read
+pack_words = refl
+
+scrubbed_words : request_in (codes "scrub" ∷ codes "st" ∷ []) ≡ Some (Scrub (codes "st"))
 unfolding words_read
 scrubbed_words = refl
 
 -- two files that take turns, the second with two guards
-turn_words : request_of (codes "interleave" ∷ codes "st" ∷ codes "011" ∷ codes "a" ∷ codes "guard:bytes=7" ∷ codes "guard:nodev" ∷ codes "b" ∷ [])
-    ≡ Some (TakeTurns 1 (0 ∷ 1 ∷ 1 ∷ []) (record { guards = MostBytes 7 ∷ NoDevices ∷ []; shares = 0 ∷ 2 ∷ []; files = codes "a" ∷ codes "b" ∷ [] }))
+turn_words : request_in (codes "interleave" ∷ codes "st" ∷ codes "011" ∷ codes "a" ∷ codes "guard:bytes=7" ∷ codes "guard:nodev" ∷ codes "b" ∷ [])
+    ≡ Some (Interleave (codes "st") (0 ∷ 1 ∷ 1 ∷ []) (record { guards = MostBytes 7 ∷ NoDevices ∷ []; shares = 0 ∷ 2 ∷ []; files = codes "a" ∷ codes "b" ∷ [] }))
 unfolding words_read
 turn_words = refl
 
 -- a turn of a file that is not there, a guard behind the last file, and no turn
-no_such_file : request_of (codes "interleave" ∷ codes "st" ∷ codes "2" ∷ codes "a" ∷ codes "b" ∷ []) ≡ None
+no_such_file : request_in (codes "interleave" ∷ codes "st" ∷ codes "2" ∷ codes "a" ∷ codes "b" ∷ []) ≡ None
 unfolding words_read
 no_such_file = refl
 
-last_guard : request_of (codes "interleave" ∷ codes "st" ∷ codes "0" ∷ codes "a" ∷ codes "guard:nodev" ∷ []) ≡ None
+last_guard : request_in (codes "interleave" ∷ codes "st" ∷ codes "0" ∷ codes "a" ∷ codes "guard:nodev" ∷ []) ≡ None
 unfolding words_read
 last_guard = refl
 
-no_turn : request_of (codes "interleave" ∷ codes "st" ∷ [] ∷ codes "a" ∷ []) ≡ None
+no_turn : request_in (codes "interleave" ∷ codes "st" ∷ [] ∷ codes "a" ∷ []) ≡ None
 unfolding words_read
 no_turn = refl
 
 -- names stand in front of files, behind the guards and the store
-named_words : request_of (codes "audit" ∷ codes "guard:nodev" ∷ codes "none" ∷ codes "a" ∷ codes "name:two" ∷ codes "b" ∷ [])
-    ≡ Some (OfStore (OfStreams (Audit (NoDevices ∷ []) 2 3)))
+named_words : request_in (codes "audit" ∷ codes "guard:nodev" ∷ codes "none" ∷ codes "a" ∷ codes "name:two" ∷ codes "b" ∷ [])
+    ≡ Some (Audit (NoDevices ∷ []) Nothing (record { files = codes "a" ∷ codes "b" ∷ []; overrides = no_override ∷ record { name = Some (codes "two"); parents = [] } ∷ [] }))
 unfolding words_read
 named_words = refl
 
@@ -147,34 +152,37 @@ parent_of_no_file : given_in (codes "a" ∷ ones ∷ []) ≡ None
 unfolding words_read
 parent_of_no_file = refl
 
-parent_words : request_of (codes "receive" ∷ codes "st" ∷ ones ∷ codes "a" ∷ []) ≡ Some (OfStore (ReceiveFiles [] 1 2))
+parent_words : request_in (codes "receive" ∷ codes "st" ∷ ones ∷ codes "a" ∷ [])
+    ≡ Some (Receive [] (codes "st") (record { files = codes "a" ∷ []; overrides = record { name = None; parents = key 0x11 9 ∷ [] } ∷ [] }))
 unfolding words_read
 parent_words = refl
 
-bad_parent : request_of (codes "receive" ∷ codes "st" ∷ codes "parent:11" ∷ codes "a" ∷ []) ≡ None
+bad_parent : request_in (codes "receive" ∷ codes "st" ∷ codes "parent:11" ∷ codes "a" ∷ []) ≡ None
 unfolding words_read
 bad_parent = refl
 
 -- a store may be called so, and so may a file that is given as another path to it
-store_so_called : request_of (codes "compose" ∷ codes "name:x" ∷ codes "./name:y" ∷ []) ≡ Some (OfStore (OfStreams (Compose 1 2)))
+store_so_called : request_in (codes "compose" ∷ codes "name:x" ∷ codes "./name:y" ∷ [])
+    ≡ Some (Compose (InStore (codes "name:x")) (record { files = codes "./name:y" ∷ []; overrides = no_override ∷ [] }))
 unfolding words_read
 store_so_called = refl
 
 -- a name in front of no file, and two in front of one
-no_file_behind : request_of (codes "receive" ∷ codes "st" ∷ codes "a" ∷ codes "name:two" ∷ []) ≡ None
+no_file_behind : request_in (codes "receive" ∷ codes "st" ∷ codes "a" ∷ codes "name:two" ∷ []) ≡ None
 unfolding words_read
 no_file_behind = refl
 
-only_a_name : request_of (codes "compose" ∷ codes "none" ∷ codes "name:two" ∷ []) ≡ None
+only_a_name : request_in (codes "compose" ∷ codes "none" ∷ codes "name:two" ∷ []) ≡ None
 unfolding words_read
 only_a_name = refl
 
-two_names : request_of (codes "compose" ∷ codes "none" ∷ codes "name:one" ∷ codes "name:two" ∷ codes "a" ∷ []) ≡ None
+two_names : request_in (codes "compose" ∷ codes "none" ∷ codes "name:one" ∷ codes "name:two" ∷ codes "a" ∷ []) ≡ None
 unfolding words_read
 two_names = refl
 
 -- receive takes the same words
-received_words : request_of (codes "receive" ∷ codes "st" ∷ codes "name:two" ∷ codes "a" ∷ []) ≡ Some (OfStore (ReceiveFiles [] 1 2))
+received_words : request_in (codes "receive" ∷ codes "st" ∷ codes "name:two" ∷ codes "a" ∷ [])
+    ≡ Some (Receive [] (codes "st") (record { files = codes "a" ∷ []; overrides = record { name = Some (codes "two"); parents = [] } ∷ [] }))
 unfolding words_read
 received_words = refl
 
@@ -207,24 +215,24 @@ no_forms : map meant_by (codes "escaped:\\x41" ∷ codes "escaped:\\xFF" ∷ cod
 unfolding words_read
 no_forms = refl
 
-escaped_words : request_of (codes "cat" ∷ codes "st" ∷ codes "escaped:\\xff" ∷ codes "a" ∷ []) ≡ Some (OfStore (CatFile 1 2 3))
+escaped_words : request_in (codes "cat" ∷ codes "st" ∷ codes "escaped:\\xff" ∷ codes "a" ∷ []) ≡ Some (Cat (codes "st") (255 ∷ []) (codes "a"))
 unfolding words_read
 escaped_words = refl
 
-no_form : request_of (codes "cat" ∷ codes "st" ∷ codes "a" ∷ codes "escaped:\\xFF" ∷ []) ≡ None
+no_form : request_in (codes "cat" ∷ codes "st" ∷ codes "a" ∷ codes "escaped:\\xFF" ∷ []) ≡ None
 unfolding words_read
 no_form = refl
 
-not_dropped : request_of (codes "drop" ∷ codes "st" ∷ codes "escaped:\\" ∷ []) ≡ None
+not_dropped : request_in (codes "drop" ∷ codes "st" ∷ codes "escaped:\\" ∷ []) ≡ None
 unfolding words_read
 not_dropped = refl
 
-not_sent : request_of (codes "restore" ∷ codes "st" ∷ codes "escaped:a b" ∷ []) ≡ None
+not_sent : request_in (codes "restore" ∷ codes "st" ∷ codes "escaped:a b" ∷ []) ≡ None
 unfolding words_read
 not_sent = refl
 
 -- a store may be called so, and a name may be given so
-so_called : request_of (codes "drop" ∷ codes "escaped:\\" ∷ codes "a" ∷ []) ≡ Some (OfStore (DropEntry 1 2))
+so_called : request_in (codes "drop" ∷ codes "escaped:\\" ∷ codes "a" ∷ []) ≡ Some (Drop (codes "escaped:\\") (codes "a"))
 unfolding words_read
 so_called = refl
 

@@ -10,7 +10,7 @@ use Rattle.send_model.specs.Guards.{Guard, GuardSpec, new_guard, guard_of, is_gu
 use Rattle.send_model.specs.Words.{new_guards}
 use Rattle.store_model.specs.Turns.{is_turn, schedule_of}
 use Rattle.send_model.proofs.Sorts.{same_inside}
-use Rattle.program_model.specs.AllRequests.{TurnFiles, with_guard, with_file, turn_files}
+use Rattle.program_model.specs.TurnWords.{TurnFiles, with_guard, with_file, turn_files}
 use Rattle.program_model.proofs.TurnWords.{View, IsFile, IsGuard, view, file_more, guard_more, none_before, as_many}
 
 true_false : {P : Type 0} (b : Bool) → b ≡ true → b ≡ false → P

@@ -5,7 +5,7 @@ use Rattle.send_model.specs.Guards.{Guard, GuardSpec, new_guard, guard_of, is_gu
 use Rattle.send_model.specs.Words.{new_guards}
 use Rattle.store_model.specs.TurnDues.{shared}
 use Rattle.send_model.proofs.Sorts.{same_inside}
-use Rattle.program_model.specs.AllRequests.{TurnFiles, with_guard, with_file, turn_files}
+use Rattle.program_model.specs.TurnWords.{TurnFiles, with_guard, with_file, turn_files}
 
 -- ---- one word more
 

@@ -1,6 +1,6 @@
 -- How the program answers: the exit status, the line on standard error, and what an answer says of
 -- what was written and of the store. They are this program's own.
-use Rattle.std.specs.Prelude.{◌≡◌, ⊤, ℕ, List, [], ◌∷◌, ◌++◌, codes}
+use Rattle.std.specs.Prelude.{◌≡◌, ℕ, List, [], ◌∷◌, ◌++◌, codes}
 use Rattle.send_model.specs.Guards.{GuardSpec}
 use Rattle.send_model.specs.Words.{new_guards}
 use Rattle.send_model.specs.Reading.{Verdict}
@@ -14,7 +14,10 @@ use Rattle.send_model.specs.Lines.{dump_of}
 use Rattle.send_model.specs.Exported.{exported_of}
 use Rattle.send_model.specs.Generated.{chain_of, trial_line}
 use Rattle.send_model.specs.Printed.{escaped}
+use Rattle.send_model.specs.Answer as answers
 use Rattle.send_model.specs.Answer.{and_field, and_number, line, eight_digits, verdict_text}
+use Rattle.text_model.specs.Texts.{text_in}
+use Rattle.text_model.specs.Packing.{IsPackDue, IsPackedPart, PackSays}
 use Rattle.store_model.specs.NamedFiles.{NamedFiles, read_of}
 use Rattle.store_model.specs.Stored.{StandsFor, StandsForNone}
 use Rattle.store_model.specs.States.{received_lines}
@@ -23,6 +26,7 @@ use Rattle.store_model.specs.Scrub.{IsScrubbed, scrub_line}
 use Rattle.store_model.specs.Stops.{IsOnTheWay}
 use Rattle.store_model.specs.Dues.{Due, Ends, NotStore, Missing, LogFull, StoreThere, Damaged, OverStore, list_due, show_due, cat_due, show_output, cat_output, init_due, IsReceiveDue, IsDropDue, IsScrubDue, ReceiveSays}
 use Rattle.store_model.specs.Requests.{ByImage, Printed, InitLeaves, DropLeaves}
+use Rattle.store_model.specs.Answers as stored_answers
 use Rattle.store_model.specs.Answers.{InitFault, DropFault, PrintsBefore, PrintsCut, ReceiveBefore}
 use Rattle.store_model.specs.TurnDues.{InTurns, in_turns}
 use Rattle.store_model.specs.TurnAnswers.{TurnsDue, TurnsBefore, TurnsInput, TurnsCut}
@@ -31,7 +35,7 @@ use Rattle.snapshot_model.specs.Restored.{restored_stream}
 use Rattle.snapshot_model.specs.HeldStores.{Form, IsSendDue, SendBefore, SendCut}
 use Rattle.program_model.specs.FileWords.{GivenFiles}
 use Rattle.program_model.specs.TurnWords.{TurnFiles}
-use Rattle.program_model.specs.Requests.{Base, Nothing, InStore, Request, Compose, Audit, Dump, Export, Gen, Trial, Init, Drop, Receive, ListAll, Show, Cat, Scrub, Send, Restore, Interleave}
+use Rattle.program_model.specs.Requests.{Base, Nothing, InStore, Request, Compose, Audit, Dump, Text, Pack, Export, Gen, Trial, Init, Drop, Receive, ListAll, Show, Cat, Scrub, Send, Restore, Interleave}
 
 -- ---- the answers
 
@@ -58,6 +62,24 @@ pub data Answer : Type 0 where
   IsTooMuch : (sum : ℕ) → Answer
   IsTooLong : (file : ℕ) → Answer
   InputChanged : (file place : ℕ) → Answer
+
+-- An answer over a store as one of these.
+abbrev pub flat : stored_answers.Answer → Answer
+flat (stored_answers.OfAnyWord answers.Done) = Done
+flat (stored_answers.OfAnyWord (answers.Refused verdict)) = Refused verdict
+flat (stored_answers.OfAnyWord answers.Usage) = Usage
+flat (stored_answers.OfAnyWord answers.InputFault) = InputFault
+flat (stored_answers.OfAnyWord answers.OutputFault) = OutputFault
+flat (stored_answers.OfAnyWord answers.NoMemory) = NoMemory
+flat (stored_answers.OfAnyWord (answers.InputTooLong file)) = IsTooLong file
+flat (stored_answers.OfAnyWord (answers.TooMuch sum)) = IsTooMuch sum
+flat (stored_answers.OfAnyWord (answers.InputChanged file place)) = InputChanged file place
+flat stored_answers.StoreFault = StoreFault
+flat (stored_answers.NotStore group) = NoStore group
+flat (stored_answers.Missing what) = IsMissing what
+flat (stored_answers.LogFull end wanted limit) = IsFull end wanted limit
+flat (stored_answers.StoreThere size) = IsThere size
+flat (stored_answers.Damaged group stored computed) = IsDamaged group stored computed
 
 -- The exit status.
 unfoldable pub status_of : Answer → ℕ
@@ -203,7 +225,8 @@ exported_over read s = record {
   cut = IsFrontOf (exported_of s read.limited.items);
 }
 
--- So do the lines of a file, and bytes that two numbers give, of which none is refused.
+-- So do the lines of a file, in short or in full, and bytes that two numbers give, of which none is
+-- refused.
 abbrev pub dumped : List ℕ → OfFiles
 dumped file = record {
   due = file_due file;
@@ -211,6 +234,15 @@ dumped file = record {
   refused = λ written. written ≡ dump_of file;
   before = IsFrontOf (dump_of file);
   cut = IsFrontOf (dump_of file);
+}
+
+abbrev pub texted : List ℕ → OfFiles
+texted file = record {
+  due = file_due file;
+  whole = text_in file;
+  refused = λ written. written ≡ text_in file;
+  before = IsFrontOf (text_in file);
+  cut = IsFrontOf (text_in file);
 }
 
 abbrev pub made : List ℕ → OfFiles
@@ -258,6 +290,30 @@ of_base (InStore store) image over = of_store image over
 -- failed.
 abbrev pub read_again : Meaning → Meaning
 read_again meaning = record meaning { changed = meaning.input }
+
+-- ---- texts
+
+-- What is packed is the streams of a text. Of a text that is not lawful the line that is wrong is
+-- named, and the lines before it are packed; where something else ends the call, some of that is
+-- missing.
+abbrev pub Packs : (text : List ℕ) → Due → (written : List ℕ) → Type 0
+Packs text (Ends due) written = IsPackDue text due × PackSays text due written
+Packs text (NotStore group) written = ⊥
+Packs text (Missing what) written = ⊥
+Packs text (LogFull end wanted limit) written = ⊥
+Packs text (StoreThere size) written = ⊥
+Packs text (Damaged group stored computed) written = ⊥
+
+abbrev pub packed_from : (image text : List ℕ) → Meaning
+packed_from image text = record {
+  due = λ due written left. (left ≡ image) × Packs text due written;
+  input = λ written left. (left ≡ image) × IsPackedPart text written;
+  changed = never;
+  output = λ written left. (left ≡ image) × IsPackedPart text written;
+  memory = λ written left. (left ≡ image) × IsPackedPart text written;
+  device = never;
+  crash = never;
+}
 
 -- ---- stores
 
@@ -396,6 +452,8 @@ meaning_of (Audit guards base files) image bytes =
 meaning_of (Export base files) image bytes =
     of_base base image (exported_over (read_as files bytes))
 meaning_of (Dump file) image bytes = of_files image (dumped (only bytes))
+meaning_of (Text file) image bytes = of_files image (texted (only bytes))
+meaning_of (Pack file) image bytes = packed_from image (only bytes)
 meaning_of (Gen count seed) image bytes = of_files image (made (chain_of seed count))
 meaning_of (Trial count seed) image bytes = of_files image (made (trial_line seed count))
 meaning_of (Init store) image bytes = made_new image

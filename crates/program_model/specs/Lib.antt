@@ -4,7 +4,4 @@ pub mod TurnWords
 pub mod Requests
 pub mod Profiles
 pub mod Answers
-pub mod AllRequests
-pub mod AllAnswers
-pub mod WordMeanings
-pub mod Agreement
+pub mod AnswerMeanings

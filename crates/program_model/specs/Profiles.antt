@@ -1,10 +1,9 @@
 -- What a request does outside, as one table: which files it reads and how often, what it does to a
 -- store, whether it prints, and the exit statuses that it may have. This program's own.
-use Rattle.std.specs.Prelude.{ℕ, Bool, true, false, List, [], ◌∷◌, ◌++◌, map, Option, None, Some}
+use Rattle.std.specs.Prelude.{⊤, ℕ, Bool, true, false, List, [], ◌∷◌, ◌++◌, Option, None, Some}
 use Rattle.send_model.specs.Guards.{GuardSpec}
 use Rattle.program_model.specs.FileWords.{GivenFiles, no_files}
-use Rattle.program_model.specs.TurnWords.{TurnFiles}
-use Rattle.program_model.specs.Requests.{Base, Nothing, InStore, Request, Compose, Audit, Dump, Export, Gen, Trial, Init, Drop, Receive, ListAll, Show, Cat, Scrub, Send, Restore, Interleave}
+use Rattle.program_model.specs.Requests.{Base, Nothing, InStore, Request, Compose, Audit, Dump, Text, Pack, Export, Gen, Trial, Init, Drop, Receive, ListAll, Show, Cat, Scrub, Send, Restore, Interleave}
 
 -- How files are read: not at all; once, in their order, so that a pipe serves; twice, and parts of
 -- them again; or once each, in turns.
@@ -23,6 +22,11 @@ pub data Access : Type 0 where
 pub record StoreAccess : Type 0 where
   pub file : List ℕ
   pub access : Access
+
+-- A store is used only to be read, if one is used.
+abbrev pub OnlyReads : Option StoreAccess → Type 0
+OnlyReads None = ⊤
+OnlyReads (Some store) = elim store.access [ Makes ↦ ⊥ | Changes ↦ ⊥ | Reads ↦ ⊤ ]
 
 pub record Profile : Type 0 where
   -- the guards that are asked about each command of a stream
@@ -79,6 +83,8 @@ profile (Audit guards base files) =
 profile (Export base files) =
     does [] files Once (store_of base) true (over base (0 ∷ 1 ∷ 3 ∷ 4 ∷ 7 ∷ 11 ∷ []))
 profile (Dump file) = does [] (plain_files (file ∷ [])) Once None true (0 ∷ 1 ∷ 3 ∷ 4 ∷ 7 ∷ 11 ∷ [])
+profile (Text file) = does [] (plain_files (file ∷ [])) Once None true (0 ∷ 1 ∷ 3 ∷ 4 ∷ 7 ∷ 11 ∷ [])
+profile (Pack file) = does [] (plain_files (file ∷ [])) Once None true (0 ∷ 1 ∷ 3 ∷ 4 ∷ 7 ∷ 11 ∷ [])
 profile (Gen count seed) = does [] no_files NoFiles None true (0 ∷ 4 ∷ 7 ∷ [])
 profile (Trial count seed) = does [] no_files NoFiles None true (0 ∷ 4 ∷ 7 ∷ [])
 profile (Init store) = does [] no_files NoFiles (makes store) false (0 ∷ 5 ∷ 12 ∷ [])

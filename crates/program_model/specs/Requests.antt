@@ -19,6 +19,8 @@ pub data Request : Type 0 where
   Compose : (base : Base) (files : GivenFiles) → Request
   Audit : (guards : List GuardSpec) (base : Base) (files : GivenFiles) → Request
   Dump : (file : List ℕ) → Request
+  Text : (file : List ℕ) → Request
+  Pack : (file : List ℕ) → Request
   Export : (base : Base) (files : GivenFiles) → Request
   Gen : (count seed : ℕ) → Request
   Trial : (count seed : ℕ) → Request
@@ -147,6 +149,8 @@ commands =
     usage (codes "compose") (a_base_and_files Compose)
     ∷ usage (codes "audit") (guarded (λ guards. a_base_and_files (Audit guards)))
     ∷ usage (codes "dump") (a_file Dump)
+    ∷ usage (codes "text") (a_file Text)
+    ∷ usage (codes "pack") (a_file Pack)
     ∷ usage (codes "export") (a_base_and_files Export)
     ∷ usage (codes "gen") (two_numbers Gen)
     ∷ usage (codes "trial") (two_numbers Trial)

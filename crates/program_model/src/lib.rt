@@ -5,5 +5,5 @@
 mod laws;
 mod meanings;
 
-pub use laws::{escaped_words_are_read_back, words_are_answered, words_give_files};
-pub use meanings::words_mean_what_is_meant;
+pub use laws::{escaped_words_are_read_back, words_give_files};
+pub use meanings::answers_mean_what_is_meant;

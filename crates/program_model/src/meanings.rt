@@ -1,20 +1,27 @@
-// What an answer to words means to whoever reads it. The contract of a function that does nothing.
-ghost use Rattle.program_model.specs.WordMeanings.{OthersAreStored, ShowIsOfMeant, CatIsOfMeant, DropIsOfMeant, MissingIsMeant};
-ghost use Rattle.program_model.specs.WordMeanings.{SendIsOfMeant, RestoreIsOfMeant, NoFilesAreSent, TurnsHaveTheirGuards, TurnsOfWordsAreDone};
+// What an answer to a request means to whoever reads it. The contract of a function that does nothing.
+ghost use Rattle.program_model.specs.AnswerMeanings.{ReadersKeepTheImage, ShowIsOfNamed, CatIsOfNamed, DropIsOfNamed, MissingIsNamed};
+ghost use Rattle.program_model.specs.AnswerMeanings.{SendIsOfNamed, RestoreIsOfNamed, SentIsReceivedAnew, RestoredIsReceivedAnew, NoFilesAreSent, TurnsAreDone};
+ghost use Rattle.program_model.specs.AnswerMeanings.{PackedIsText, TextIsPacked, TextIsTaken};
 
-/// With status 0 `show`, `cat`, `drop`, `send` and `restore` did theirs with the subvolume whose
-/// name is what its word means, and with the path that its word means; what is missing are these
-/// bytes; and files that take turns had the guards of their words, each with its share. All other
-/// words are answered as the definitions below this crate say.
-pub fn words_mean_what_is_meant()
-    ensures others { OthersAreStored }
-    ensures show { ShowIsOfMeant }
-    ensures cat { CatIsOfMeant }
-    ensures dropped { DropIsOfMeant }
-    ensures missing { MissingIsMeant }
-    ensures sent { SendIsOfMeant }
-    ensures restored { RestoreIsOfMeant }
+/// No answer to a request that changes no store changes the image. With status 0 `show`, `cat`,
+/// `drop`, `send` and `restore` did their part with the snapshot of that name, and with that path;
+/// what is missing are these; what is sent of a snapshot, and what is restored of it, is one stream
+/// that every store without its name and its UUID receives, with an equal listing. `text` of what
+/// `pack` made of a text is that text, and `pack` of what `text` printed of a file is its canonical
+/// bytes. Files that take turns had the guards of their words, each with its share.
+pub fn answers_mean_what_is_meant()
+    ensures readers { ReadersKeepTheImage }
+    ensures show { ShowIsOfNamed }
+    ensures cat { CatIsOfNamed }
+    ensures dropped { DropIsOfNamed }
+    ensures missing { MissingIsNamed }
+    ensures sent { SendIsOfNamed }
+    ensures restored { RestoreIsOfNamed }
+    ensures sent_anew { SentIsReceivedAnew }
+    ensures restored_anew { RestoredIsReceivedAnew }
     ensures no_files { NoFilesAreSent }
-    ensures guards { TurnsHaveTheirGuards }
-    ensures turns { TurnsOfWordsAreDone }
+    ensures packed { PackedIsText }
+    ensures text { TextIsPacked }
+    ensures taken { TextIsTaken }
+    ensures turns { TurnsAreDone }
 {}

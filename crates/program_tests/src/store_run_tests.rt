@@ -8,7 +8,7 @@ use crate::streams::{
 use disk_model::{FuseDisk, MemDisk};
 use guard_rules::{AnyGuard, Guard, parse_guard};
 use host_io::NoDisk;
-use send_top::{StoreUse, run, store_use, store_word};
+use send_top::run;
 use std::alloc::{AllocError, Global};
 use std::process::Abort;
 use std::test::Fail;
@@ -520,49 +520,6 @@ fn an_output_that_fails_is_told(rt: HostRuntime) -> Result<(), Fail> {
         same(&rt, status, 4);
         same(&rt, out.bytes(), b"".as_slice());
         same(&rt, notes.bytes(), b"output fault\n".as_slice());
-    }
-    Ok(())
-}
-
-const STORE_WORDS: &[(&[&str], Option<&str>, Option<StoreUse>)] = &[
-    (&["init", "st"], Some("st"), Some(StoreUse::Make)),
-    (&["drop", "st", "a"], Some("st"), Some(StoreUse::Write)),
-    (
-        &["receive", "guard:nodev", "st", "first"],
-        Some("st"),
-        Some(StoreUse::Write),
-    ),
-    (&["list", "none"], Some("none"), Some(StoreUse::Read)),
-    (&["show", "st", "a"], Some("st"), Some(StoreUse::Read)),
-    (&["cat", "st", "a", "x"], Some("st"), Some(StoreUse::Read)),
-    (&["scrub", "st"], Some("st"), Some(StoreUse::Read)),
-    (&["audit", "st", "first"], Some("st"), Some(StoreUse::Read)),
-    (
-        &["compose", "st", "first"],
-        Some("st"),
-        Some(StoreUse::Read),
-    ),
-    (&["export", "st", "first"], Some("st"), Some(StoreUse::Read)),
-    (&["send", "st", "a"], Some("st"), Some(StoreUse::Read)),
-    (&["restore", "st", "a"], Some("st"), Some(StoreUse::Read)),
-    (
-        &["interleave", "st", "0", "first"],
-        Some("st"),
-        Some(StoreUse::Write),
-    ),
-    (&["audit", "none", "first"], None, None),
-    (&["compose", "none", "first"], None, None),
-    (&["dump", "st"], None, None),
-    (&["init"], None, None),
-    (&[], None, None),
-];
-
-#[test]
-fn the_store_is_named_by_its_word(rt: HostRuntime) -> Result<(), Fail> {
-    for &(words, named, usage) in STORE_WORDS {
-        let words = words_of(rt.alloc(), words)?;
-        same(&rt, store_word(&words), named);
-        same(&rt, store_use(&words), usage);
     }
     Ok(())
 }

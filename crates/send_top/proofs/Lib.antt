@@ -1,21 +1,5 @@
+pub mod Clauses
 pub mod Hexadecimal
+pub mod MissingNote
 pub mod Notes
 pub mod Statuses
-pub mod GuardPlaces
-pub mod AuditWords
-pub mod OtherWords
-pub mod StreamsEnds
-pub mod AskedFor
-pub mod StreamsAnswers
-pub mod MissingNote
-pub mod ReceiveAnswers
-pub mod NothingDone
-pub mod SentAnew
-pub mod TurnsRead
-mod NothingRead
-pub mod FlatAsks
-pub mod FlatStatuses
-pub mod FlatAnswers
-pub mod FlatClauses
-pub mod CrashesLeave
-pub mod MadeEnds

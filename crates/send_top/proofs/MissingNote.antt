@@ -6,7 +6,7 @@ use Rattle.std.proofs.KnownBytes.{Appends-nil, Appends-trans}
 use Rattle.std.proofs.Math.Seq.{take-append-add}
 use Rattle.std.proofs.lemmas.List.{take-append-le}
 use Rattle.send_model.specs.Printed.{escaped, escaped_byte}
-use Rattle.store_model.specs.Answers.{Missing, note_of}
+use Rattle.program_model.specs.Answers.{IsMissing, note_of}
 use Rattle.sx_base.specs.Outside.{AppendsPart}
 use Rattle.sx_base.proofs.EscapedSteps.{escaped_step, escaped_end}
 use Rattle.send_top.specs.Answered.{HandedOn}
@@ -40,13 +40,13 @@ pushed what line new place byte old now n less is grown = record {
 }
 
 -- All is escaped, so this is the note.
-whole : (what line : List ℕ) (place : ℕ) (old now : Option (List ℕ)) (n : IsNoted what line place old now) → length what ≤ place → n.written ++ (line ++ 10 ∷ []) ≡ note_of (Missing what)
+whole : (what line : List ℕ) (place : ℕ) (old now : Option (List ℕ)) (n : IsNoted what line place old now) → length what ≤ place → n.written ++ (line ++ 10 ∷ []) ≡ note_of (IsMissing what)
 unfolding note_of
 whole what line place old now n all =
     sym (append_assoc n.written line (10 ∷ [])) ∙ ap (λ (l : List ℕ). l ++ 10 ∷ []) (sym (escaped_end (n.written ++ line) what place all) ∙ n.is)
 
 pub ended : (what line last : List ℕ) (place : ℕ) (old now new : Option (List ℕ)) → IsNoted what line place old now → length what ≤ place → last ≡ line ++ 10 ∷ []
-    → Appends now new last → Appends old new (note_of (Missing what))
+    → Appends now new last → Appends old new (note_of (IsMissing what))
 ended what line last place old now new n all is wrote =
     subst (Appends old new) (ap (λ (l : List ℕ). n.written ++ l) is ∙ whole what line place old now n all) (Appends-trans old now new n.written last n.wrote wrote)
 
@@ -65,19 +65,19 @@ part_behind written piece rest all old now new wrote (count, less, part) is =
       subst (Appends old new) (sym front) (Appends-trans old now new written (take count piece) wrote part),
     )
 
-note_is : (what : List ℕ) → (codes "missing " ++ escaped what) ++ 10 ∷ [] ≡ note_of (Missing what)
+note_is : (what : List ℕ) → (codes "missing " ++ escaped what) ++ 10 ∷ [] ≡ note_of (IsMissing what)
 unfolding note_of
 note_is what = refl
 
-pub stopped : (what line : List ℕ) (place : ℕ) (old now new : Option (List ℕ)) → IsNoted what line place old now → AppendsPart now new line → AppendsPart old new (note_of (Missing what))
+pub stopped : (what line : List ℕ) (place : ℕ) (old now new : Option (List ℕ)) → IsNoted what line place old now → AppendsPart now new line → AppendsPart old new (note_of (IsMissing what))
 stopped what line place old now new n part =
-    part_behind n.written line (escaped (drop place what) ++ 10 ∷ []) (note_of (Missing what)) old now new n.wrote part
+    part_behind n.written line (escaped (drop place what) ++ 10 ∷ []) (note_of (IsMissing what)) old now new n.wrote part
     (sym (append_assoc (n.written ++ line) (escaped (drop place what)) (10 ∷ [])) ∙ ap (λ (l : List ℕ). l ++ 10 ∷ []) n.is ∙ note_is what)
 
 pub cut : (what line last : List ℕ) (place : ℕ) (old now new : Option (List ℕ)) → IsNoted what line place old now → length what ≤ place → last ≡ line ++ 10 ∷ []
-    → AppendsPart now new last → AppendsPart old new (note_of (Missing what))
+    → AppendsPart now new last → AppendsPart old new (note_of (IsMissing what))
 cut what line last place old now new n all is part =
-    part_behind n.written last [] (note_of (Missing what)) old now new n.wrote part
+    part_behind n.written last [] (note_of (IsMissing what)) old now new n.wrote part
     (append_assoc n.written last [] ∙ ap (λ (l : List ℕ). n.written ++ l) (append-nil last ∙ is) ∙ whole what line place old now n all)
 
 -- What is said of a call that ended so, whatever it answered.

@@ -2,20 +2,10 @@
 //! and sinks that it is handed.
 #![tactic(auto)]
 
-mod asked;
-mod fitting;
-mod interleaving;
-mod meant;
 mod noting;
-mod on_streams;
 mod one_line;
-mod over_store;
-mod receiving;
-mod store_named;
 mod top_call;
-mod turn_words;
-mod words;
 
-pub use noting::{Answer, status, write_note};
-pub use store_named::{StoreUse, store_use, store_word};
+pub use noting::{status, write_note};
+pub use request_answers::Answer;
 pub use top_call::run;

@@ -1,62 +1,20 @@
 // How a run answers: its exit status, and the line on standard error.
 ghost use Rattle.std.specs.Prelude.{◌≡◌, ◌+◌, ◌≤◌, ◌++◌, length, OnOk, OnErr};
 ghost use Rattle.std.specs.Io.KnownBytes.{Appends};
-ghost use Rattle.send_model.specs.Answer.{Done, kept_values, verdict_text};
-ghost use Rattle.store_model.specs.Answers.{OfAnyWord, Missing, status_of, note_of};
+ghost use Rattle.send_model.specs.Answer.{kept_values, verdict_text};
+ghost use Rattle.program_model.specs.Answers.{Done, IsMissing, status_of, note_of};
 ghost use Rattle.sx_base.specs.Causes.{HasCause};
 ghost use Rattle.sx_base.specs.Outside.{AppendsPart};
 ghost use Rattle.sx_base.specs.Refusals.{refusal_of, verdict_meant};
-ghost use Rattle.send_top.specs.Answered.{answer_of, HandedOn, HasShortNote};
+ghost use Rattle.request_answers.specs.Answered.{answer_of};
+ghost use Rattle.send_top.specs.Answered.{HandedOn, HasShortNote};
 
 use crate::one_line::Line;
-use sx_base::{Blob, Failed, Outcome, Refusal, Sink, Verdict, write_whole};
-
-/// What a run answers.
-#[derive(Debug, Drop)]
-pub enum Answer {
-    /// The words mean nothing.
-    Usage,
-    /// What the words ask for ended so.
-    Ended(Outcome),
-    /// The store's device failed.
-    StoreFault,
-    /// The bytes stand for no store.
-    NotStore {
-        /// The first group at fault, counted from 1; the header counts as group 0.
-        group: u64,
-    },
-    /// The store has nothing of this name or path.
-    Missing {
-        /// The name or the path.
-        what: Blob,
-    },
-    /// There is no room in the store.
-    LogFull {
-        /// The place where the next bytes would stand, in bytes.
-        end: u64,
-        /// How many bytes they are.
-        wanted: u64,
-        /// The greatest size of the store, in bytes.
-        limit: u64,
-    },
-    /// There is something already where a store was to be made.
-    StoreThere {
-        /// Its size, in bytes.
-        size: u64,
-    },
-    /// A group of the store has another checksum than the one that stands behind it.
-    Damaged {
-        /// The group, counted from 1.
-        group: u64,
-        /// The checksum that stands there.
-        stored: u32,
-        /// The checksum of the bytes in front of it.
-        computed: u32,
-    },
-}
+use request_answers::Answer;
+use sx_base::{Failed, Outcome, Refusal, Sink, Verdict, write_whole};
 
 /// The exit status of an answer.
-#[tactic(auto, unfolding(send_model::specs::Answer::status_of, store_model::specs::Answers::status_of))]
+#[tactic(auto, unfolding(program_model::specs::Answers::status_of))]
 pub fn status(answer: &Answer) -> u8
     ensures { result ≡ status_of (answer_of answer.now) }
 {
@@ -88,7 +46,7 @@ pub fn write_note<N: Sink>(answer: &Answer, notes: &mut N) -> Result<(), Failed>
     ensures part { OnErr result
         (AppendsPart (N.taken notes.old) (N.taken notes.new) (note_of (answer_of answer.now))) }
     ensures cause { HasCause (N.faults notes.old) (N.faults notes.new) result }
-    ensures quiet { answer_of answer.now ≡ OfAnyWord Done → notes.new ≡ notes.old }
+    ensures quiet { answer_of answer.now ≡ Done → notes.new ≡ notes.old }
 {
     if status(answer) == 0 {
         return Ok(());
@@ -103,9 +61,9 @@ pub fn write_note<N: Sink>(answer: &Answer, notes: &mut N) -> Result<(), Failed>
 // Writes the note of what is missing, of any length, a line's room at a time.
 fn write_missing<N: Sink>(what: &[u8], notes: &mut N) -> Result<(), Failed>
     ensures whole { OnOk result
-        (Appends (N.taken notes.old) (N.taken notes.new) (note_of (Missing what.now))) }
+        (Appends (N.taken notes.old) (N.taken notes.new) (note_of (IsMissing what.now))) }
     ensures part { OnErr result
-        (AppendsPart (N.taken notes.old) (N.taken notes.new) (note_of (Missing what.now))) }
+        (AppendsPart (N.taken notes.old) (N.taken notes.new) (note_of (IsMissing what.now))) }
     ensures cause { HasCause (N.faults notes.old) (N.faults notes.new) result }
 {
     let mut line = Line::new();
@@ -135,7 +93,7 @@ fn make_room<N: Sink>(line: &mut Line, notes: &mut N) -> Result<(), Failed>
 }
 
 // The note of an answer that is missing nothing.
-#[tactic(auto, unfolding(send_model::specs::Answer::note_of, store_model::specs::Answers::note_of))]
+#[tactic(auto, unfolding(program_model::specs::Answers::note_of))]
 fn note_line(answer: &Answer) -> Line
     requires short { HasShortNote (answer_of answer.now) }
     ensures { result ≡ note_of (answer_of answer.now) }

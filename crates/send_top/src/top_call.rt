@@ -1,35 +1,15 @@
 // What a run does with its words.
-ghost use Rattle.std.specs.Prelude.{◌≡◌, ◌↔◌, ◌⊎◌, false, map};
+ghost use Rattle.std.specs.Prelude.{map};
 ghost use Rattle.std.specs.String.{string_bytes};
-ghost use Rattle.send_model.specs.Answer.{Done, Refused, Usage};
-ghost use Rattle.send_model.specs.Reading.{Verdict};
-ghost use Rattle.store_model.specs.Answers as meant;
-ghost use Rattle.store_model.specs.Answers.{OfAnyWord};
-ghost use Rattle.program_model.specs.AllRequests as requests;
-ghost use Rattle.send_model.specs.Words as streams;
-ghost use Rattle.store_model.specs.Requests.{OfStreams};
-ghost use Rattle.program_model.specs.AllRequests.{OfStore};
-ghost use Rattle.program_model.specs.AllAnswers.{ReadsOnly};
-ghost use Rattle.program_model.specs.Agreement.{values_of};
-ghost use Rattle.program_model.specs.Profiles.{profile, NoFiles};
-ghost use Rattle.sx_base.specs.Causes.{Rose};
-ghost use Rattle.sx_base.specs.Later.{AskedOnly};
-ghost use Rattle.sx_base.specs.Crash.{LeavesOnly};
-ghost use Rattle.sx_base.specs.Disk.{settled};
-ghost use Rattle.send_top.specs.Answered.{answer_of};
+ghost use Rattle.request_answers.specs.Answered.{answer_of};
+ghost use Rattle.request_answers.specs.Objects.{objects_of};
+ghost use Rattle.send_top.specs.Asked.{IsAnswered};
 ghost use Rattle.send_top.specs.Clauses.{Answers, IsAcknowledged, IsCaused, IsCrashSafe, IsExported, IsMerged, IsSent, MeansNothing, Touches, run_of};
-ghost use Rattle.send_top.specs.FilesRead.{FilesRead};
-ghost use Rattle.send_top.specs.Requests.{AskNothing, Asks, uses_store};
-ghost use Rattle.send_top.specs.Run as run;
-ghost use Rattle.send_top.specs.Run.{Acknowledges, AcknowledgesInTurn, AreSteady, AtAnyMoment, IfMadeOrDropped, AskForStore, AskToCompose, Composes, ComposesFront, Exports, IfOfCompose, IfOfStore, IsAllowed, IsAnswered, IsChangedAt, IsMade, IsMadeAnswer, Prints, SendsInPart, outside};
 
-use crate::asked::StreamsWords;
-use crate::fitting::guards_fit;
-use crate::noting::{Answer, status, write_note};
-use crate::on_streams::streams_answer;
-use crate::over_store::store_answer;
-use crate::words::{Request, read_words};
+use crate::noting::{status, write_note};
+use command_line::parse;
 use guard_rules::Guard;
+use request_answers::{Answer, answer};
 use std::alloc::Global;
 use sx_base::{Disk, Inputs, Sink};
 
@@ -100,6 +80,7 @@ pub fn run<I: Inputs, O: Sink, N: Sink, D: Disk>(
     status(&answer)
 }
 
+// Parses the words, asks whether the guards are theirs, and answers the request.
 fn answer_to<I: Inputs, O: Sink, D: Disk>(
     alloc: Global,
     words: &[String],
@@ -108,95 +89,15 @@ fn answer_to<I: Inputs, O: Sink, D: Disk>(
     out: &mut O,
     disk: &mut D,
 ) -> Answer
-    ensures usage { (answer_of result ≡ OfAnyWord Usage)
-        ↔ AskNothing (map string_bytes words.now) (map (λ g. kept g) guards.old) }
-    ensures untouched { answer_of result ≡ OfAnyWord Usage →
-        (inputs.new ≡ inputs.old) × (out.new ≡ out.old) × (disk.new ≡ disk.old) }
-    ensures same { I.told inputs.new ≡ I.told inputs.old }
-    ensures files_read { (request : requests.Request)
-        → Asks (map string_bytes words.now) (map (λ g. kept g) guards.old) request
-        → AskedOnly I.Inputs inputs.old inputs.new
-        (FilesRead (I.told inputs.old) request (map string_bytes words.now)) }
-    ensures caused { run.IsCaused (AreSteady (I.faults inputs.old) (I.faults inputs.new)
-        (I.ends inputs.old) (I.ends inputs.new) (O.faults out.old) (O.faults out.new)
-        × (D.faults disk.new ≡ D.faults disk.old))
-        (Rose (I.faults inputs.old) (I.faults inputs.new))
-        (Rose (I.ends inputs.old) (I.ends inputs.new))
-        (Rose (O.faults out.old) (O.faults out.new))
-        (Rose (D.faults disk.old) (D.faults disk.new)) (answer_of result) }
-    ensures of_compose { IfOfCompose (answer_of result)
-        (AskToCompose (map string_bytes words.now) (map (λ g. kept g) guards.old)) }
-    ensures of_store { IfOfStore (answer_of result)
-        (AskForStore (map string_bytes words.now) (map (λ g. kept g) guards.old)) }
-    ensures composed { answer_of result ≡ OfAnyWord Done
-        → Composes D.tells (map string_bytes words.now) (map (λ g. kept g) guards.old)
-        (outside (I.told inputs.old) (D.seen disk.old) (O.taken out.old) (O.taken out.new)) }
-    ensures refused { (verdict : Verdict) → answer_of result ≡ OfAnyWord (Refused verdict)
-        → ComposesFront D.tells (map string_bytes words.now) (map (λ g. kept g) guards.old)
-        (outside (I.told inputs.old) (D.seen disk.old) (O.taken out.old) (O.taken out.new)) }
-    ensures exported { answer_of result ≡ OfAnyWord Done
-        → Exports D.tells (map string_bytes words.now) (map (λ g. kept g) guards.old)
-        (outside (I.told inputs.old) (D.seen disk.old) (O.taken out.old) (O.taken out.new)) }
-    ensures answered { IsAnswered D.tells (map string_bytes words.now) (map (λ g. kept g) guards.old)
-        (outside (I.told inputs.old) (D.seen disk.old) (O.taken out.old) (O.taken out.new))
-        (D.seen disk.new) (answer_of result) }
-    ensures in_part { (answer_of result ≡ OfAnyWord Done → ⊥) → D.tells
-        → (request : requests.Request)
-        → Asks (map string_bytes words.now) (map (λ g. kept g) guards.old) request
-        → SendsInPart request (map string_bytes words.now) (D.seen disk.old)
-        (O.taken out.old) (O.taken out.new) }
-    ensures changed_at { IsChangedAt (map string_bytes words.now) (map (λ g. kept g) guards.old)
-        (I.last_end inputs.new) (answer_of result) }
-    ensures allowed { IsAllowed (map string_bytes words.now) (map (λ g. kept g) guards.old)
-        (answer_of result) }
-    ensures off_disk { ((request : requests.Request)
-        → Asks (map string_bytes words.now) (map (λ g. kept g) guards.old) request
-        → uses_store (map string_bytes words.now) request ≡ false) → disk.new ≡ disk.old }
-    ensures made { (of : streams.Request)
-        → Asks (map string_bytes words.now) (map (λ g. kept g) guards.old) (OfStore (OfStreams of))
-        → IsMade of → IsMadeAnswer (answer_of result) }
-    ensures unread { ((request : requests.Request)
-        → Asks (map string_bytes words.now) (map (λ g. kept g) guards.old) request
-        → (profile (values_of (map string_bytes words.now) request)).how ≡ NoFiles)
-        → inputs.new ≡ inputs.old }
-    ensures silent { ((request : requests.Request)
-        → Asks (map string_bytes words.now) (map (λ g. kept g) guards.old) request
-        → Prints request → ⊥) → out.new ≡ out.old }
-    ensures unharmed { D.tells → ((request : requests.Request)
-        → Asks (map string_bytes words.now) (map (λ g. kept g) guards.old) request
-        → ReadsOnly request) → D.seen disk.new ≡ D.seen disk.old }
-    ensures any_moment { D.tells → (request : requests.Request)
-        → Asks (map string_bytes words.now) (map (λ g. kept g) guards.old) request
-        → AtAnyMoment (I.told inputs.old) request (map string_bytes words.now)
-        (D.pending disk.old) (D.seen disk.old)
-        (LeavesOnly D.moment D.left_since disk.old disk.new) }
-    ensures durable { answer_of result ≡ OfAnyWord Done → D.tells → (request : requests.Request)
-        → Asks (map string_bytes words.now) (map (λ g. kept g) guards.old) request
-        → IfMadeOrDropped request (D.pending disk.new ≡ settled (D.seen disk.new)) }
-    ensures acknowledged { D.tells
-        → Acknowledges (map string_bytes words.now) (map (λ g. kept g) guards.old)
-        (outside (I.told inputs.old) (D.seen disk.old) (O.taken out.old) (O.taken out.new))
-        (D.pending disk.old) (D.pending disk.new) }
-    ensures acknowledged_in_turn { D.tells
-        → AcknowledgesInTurn (map string_bytes words.now) (map (λ g. kept g) guards.old)
-        (outside (I.told inputs.old) (D.seen disk.old) (O.taken out.old) (O.taken out.new))
-        (D.pending disk.old) (D.pending disk.new) }
+    ensures { IsAnswered (objects_of I.Inputs inputs.old inputs.new O.Sink out.old out.new
+        D.Disk disk.old disk.new)
+        (map string_bytes words.now) (map (λ g. kept g) guards.old) (answer_of result) }
 {
-    let Some(request) = read_words(words) else {
+    let Some(request) = parse(words) else {
         return Answer::Usage;
     };
-    if !guards_fit(words, request, guards) {
+    if !request.guards().are_those(guards) {
         return Answer::Usage;
     }
-    match request {
-        Request::Streams(request) => {
-            let asked = StreamsWords {
-                alloc,
-                words,
-                request,
-            };
-            streams_answer(&asked, guards, inputs, out, disk)
-        }
-        Request::Store(request) => store_answer(alloc, words, request, inputs, out, disk),
-    }
+    answer(alloc, request, guards, inputs, out, disk)
 }

@@ -1,7 +1,7 @@
 use Rattle.std.specs.Prelude.{slice_index_or}
 use Rattle.std.specs.Io.KnownBytes.{Appends}
 use Rattle.std.proofs.Common.{refl, ◌∙◌, arith}
-use Rattle.store_model.specs.Answers.{Missing, note_of}
+use Rattle.program_model.specs.Answers.{IsMissing, note_of}
 use Rattle.sx_base.specs.Outside.{AppendsPart}
 use Rattle.send_top.proofs.MissingNote.{handed, pushed, ended, stopped, cut, on_err, then_ok, then_err}
 use Rattle.send_top.proofs.noting.write_missing.Goals as goal
@@ -33,7 +33,7 @@ returns-clause-whole g c =
     let middle = g.N.Sink.taken c.loop-place.notes in
     let now = g.N.Sink.taken c.make_room-2.new.notes in
     let new = g.N.Sink.taken c.write_whole.new.sink in
-    then_ok c.write_whole.result (Appends now new c.as_slice.result.now) (Appends old new (note_of (Missing c.args.what.now)))
+    then_ok c.write_whole.result (Appends now new c.as_slice.result.now) (Appends old new (note_of (IsMissing c.args.what.now)))
     (λ wrote. ended c.args.what.now c.make_room-2.new.line c.as_slice.result.now c.loop-place.place old now new
     (handed c.args.what.now c.loop-place.line c.make_room-2.new.line c.loop-place.place old middle now c.loop-place.invariant.noted c.in_ok-make_room-2.ensures.whole)
     (omega (arith, c.loop-place-test.false)) (c.as_slice.ensures.bytes ∙ c.push-2.ensures.pushed) wrote) c.write_whole.ensures.whole
@@ -44,7 +44,7 @@ returns-clause-part g c =
     let middle = g.N.Sink.taken c.loop-place.notes in
     let now = g.N.Sink.taken c.make_room-2.new.notes in
     let new = g.N.Sink.taken c.write_whole.new.sink in
-    then_err c.write_whole.result (AppendsPart now new c.as_slice.result.now) (AppendsPart old new (note_of (Missing c.args.what.now)))
+    then_err c.write_whole.result (AppendsPart now new c.as_slice.result.now) (AppendsPart old new (note_of (IsMissing c.args.what.now)))
     (λ part. cut c.args.what.now c.make_room-2.new.line c.as_slice.result.now c.loop-place.place old now new
     (handed c.args.what.now c.loop-place.line c.make_room-2.new.line c.loop-place.place old middle now c.loop-place.invariant.noted c.in_ok-make_room-2.ensures.whole)
     (omega (arith, c.loop-place-test.false)) (c.as_slice.ensures.bytes ∙ c.push-2.ensures.pushed) part) c.write_whole.ensures.part

@@ -1,6 +1,7 @@
-use Rattle.std.proofs.Common.{sym, ◌∙◌, arith}
+use Rattle.std.proofs.Common.{sym, ap, ◌∙◌, arith}
 use Rattle.std.proofs.KnownBytes.{Appends-nil}
-use Rattle.send_top.specs.Answered.{answer_of}
+use Rattle.program_model.specs.Answers.{status_of}
+use Rattle.request_answers.specs.Answered.{answer_of}
 use Rattle.send_top.proofs.Statuses.{no_note, zero-of_done}
 use Rattle.send_top.proofs.noting.write_note.Goals as goal
 
@@ -11,5 +12,5 @@ returns-then-status-eq0-clause-whole g c =
 
 pub returns-clause-quiet : goal.returns-clause-quiet
 returns-clause-quiet g c done =
-    let zero = c.status.ensures ∙ zero-of_done (answer_of c.args.answer.now) done in
+    let zero = c.status.ensures ∙ ap status_of done ∙ zero-of_done in
     absurd (omega (arith, zero, c.if-status-eq0.false))

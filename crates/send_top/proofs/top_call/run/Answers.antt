@@ -1,12 +1,11 @@
-use Rattle.std.specs.Prelude.{◌≡◌, ◌⊎◌, ℕ, List, map}
+use Rattle.std.specs.Prelude.{List, map}
 use Rattle.std.specs.String.{string_bytes}
-use Rattle.std.proofs.Common.{sym, ◌∙◌, ap, subst, rules}
+use Rattle.std.proofs.Common.{subst, rules}
 use Rattle.send_model.specs.Guards.{Guard}
-use Rattle.store_model.specs.Answers.{Answer}
-use Rattle.send_top.specs.Answered.{answer_of}
+use Rattle.program_model.specs.Answers.{Answer}
+use Rattle.request_answers.specs.Answered.{answer_of}
 use Rattle.send_top.specs.Clauses.{Run, run_of, Answers, IsAcknowledged, IsCaused, IsCrashSafe, IsExported, IsMerged, IsSent, MeansNothing, Touches}
-use Rattle.send_top.proofs.CrashesLeave.{leaves_more}
-use Rattle.send_top.proofs.FlatClauses.{Before, means_nothing, touches, is_caused, is_answered, is_merged, is_exported, is_sent, is_crash_safe, is_acknowledged}
+use Rattle.send_top.proofs.Clauses.{Before, means_nothing, touches, is_caused, is_answered, is_merged, is_exported, is_sent, is_crash_safe, is_acknowledged}
 use Rattle.send_top.proofs.top_call.run.Given.{Over}
 use Rattle.send_top.proofs.top_call.run.Goals.{After-status}
 use Rattle.send_top.proofs.top_call.run.Goals as goal
@@ -23,36 +22,11 @@ abbrev given : (g : Over) (c : After-status g) → Answer
 given g c = answer_of c.answer_to-answer.result
 
 before : (g : Over) (c : After-status g) → Before (the_run g c (asked g c)) (given g c)
-before g c = let e = c.answer_to-answer.ensures in record {
+before g c = record {
   status = c.status.ensures;
-  usage = e.usage;
-  untouched = λ usage. let u = e.untouched usage in (u.0, (u.1, u.2));
-  same = e.same;
-  files_read = e.files_read;
-  caused = e.caused;
-  known = record {
-    answered = e.answered;
-    of_compose = e.of_compose;
-    of_store = e.of_store;
-    changed_at = e.changed_at;
-    allowed = e.allowed;
-  };
-  made = e.made;
-  composed = e.composed;
-  refused = e.refused;
-  exported = e.exported;
-  in_part = e.in_part;
+  answered = c.answer_to-answer.ensures;
   note = search rules;
   quiet = c.write_note.ensures.quiet;
-  off_disk = e.off_disk;
-  unread = e.unread;
-  silent = e.silent;
-  unharmed = e.unharmed;
-  any_moment = e.any_moment;
-  durable = e.durable;
-  acknowledged = e.acknowledged;
-  acknowledged_in_turn = e.acknowledged_in_turn;
-  leaves = leaves_more g.D.Disk.moment g.D.Disk.left_since c.args.disk.now c.answer_to-answer.new.disk;
 }
 
 pub returns-clause-usage : goal.returns-clause-usage

@@ -1,0 +1,6 @@
+mod Places
+mod GuardWords
+mod GuardsBeside
+mod Splitting
+mod NamesAmong
+mod TurnsAmong

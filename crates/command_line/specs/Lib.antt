@@ -1,0 +1,5 @@
+pub mod Given
+pub mod Meaning
+pub mod Names
+pub mod Outside
+pub mod Splits

@@ -1,0 +1,7 @@
+pub mod Causes
+pub mod MeetingAlone
+pub mod MeetingStore
+pub mod MeetingTexts
+pub mod NothingDone
+pub mod Saying
+pub mod Still
