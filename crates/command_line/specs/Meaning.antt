@@ -28,5 +28,6 @@ request_meant (made.Cat store name path) = requests.Cat store.now name path
 request_meant (made.Scrub store) = requests.Scrub store.now
 request_meant (made.Send store name) = requests.Send store.now name
 request_meant (made.Restore store name) = requests.Restore store.now name
+request_meant (made.Stream store name) = requests.Stream store.now name
 request_meant (made.Interleave store turns) =
     requests.Interleave store.now turns.schedule turns.files

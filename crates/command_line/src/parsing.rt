@@ -39,6 +39,7 @@ pub fn parse(words: &[String]) -> Option<Request<'_>>
         "scrub" => read_scrub(words),
         "send" => read_send(words),
         "restore" => read_restore(words),
+        "stream" => read_stream(words),
         "interleave" => read_interleave(words),
         _ => None,
     }
@@ -246,6 +247,18 @@ fn read_restore(words: &[String]) -> Option<Request<'_>>
     };
     let Snapshot { store, name } = snapshot;
     Some(Request::Restore { store, name })
+}
+
+// `stream STORE NAME`
+fn read_stream(words: &[String]) -> Option<Request<'_>>
+    ensures { option_map request_meant result
+        ≡ a_snapshot requests.Stream (map string_bytes words.now) }
+{
+    let Some(snapshot) = snapshot_in(words) else {
+        return None;
+    };
+    let Snapshot { store, name } = snapshot;
+    Some(Request::Stream { store, name })
 }
 
 // `interleave STORE SCHEDULE [GUARD..] FILE ..`

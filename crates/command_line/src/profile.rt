@@ -67,6 +67,7 @@ impl<'a> Request<'a> {
             Request::Scrub { .. } => GuardArguments::none(),
             Request::Send { .. } => GuardArguments::none(),
             Request::Restore { .. } => GuardArguments::none(),
+            Request::Stream { .. } => GuardArguments::none(),
             Request::Interleave { turns, .. } => turns.guards(),
         }
     }
@@ -94,6 +95,7 @@ impl<'a> Request<'a> {
             Request::Scrub { .. } => FileNames::none(),
             Request::Send { .. } => FileNames::none(),
             Request::Restore { .. } => FileNames::none(),
+            Request::Stream { .. } => FileNames::none(),
             Request::Interleave { turns, .. } => turns.names(),
         }
     }
@@ -129,6 +131,7 @@ impl<'a> Request<'a> {
             Request::Scrub { .. } => How::NoFiles,
             Request::Send { .. } => How::NoFiles,
             Request::Restore { .. } => How::NoFiles,
+            Request::Stream { .. } => How::NoFiles,
             Request::Interleave { .. } => How::InTurns,
         }
     }
@@ -156,6 +159,7 @@ impl<'a> Request<'a> {
             Request::Scrub { store } => opened(store, Access::Reads),
             Request::Send { store, .. } => opened(store, Access::Reads),
             Request::Restore { store, .. } => opened(store, Access::Reads),
+            Request::Stream { store, .. } => opened(store, Access::Reads),
             Request::Interleave { store, .. } => opened(store, Access::Changes),
         }
     }
@@ -183,6 +187,7 @@ impl<'a> Request<'a> {
             Request::Scrub { .. } => true,
             Request::Send { .. } => true,
             Request::Restore { .. } => true,
+            Request::Stream { .. } => true,
             Request::Interleave { .. } => true,
         }
     }

@@ -79,6 +79,7 @@ fn writes_stream(request: &Request<'_>) -> bool
         Request::Export { .. } => true,
         Request::Send { .. } => true,
         Request::Restore { .. } => true,
+        Request::Stream { .. } => true,
         Request::Audit { .. } => false,
         Request::Dump { .. } => false,
         Request::Text { .. } => false,

@@ -17,6 +17,7 @@ usage: btrsend audit [GUARD..] STORE|none [OVERRIDE..] FILE ..
        btrsend drop STORE NAME
        btrsend scrub STORE
        btrsend send STORE NAME > STREAM
+       btrsend stream STORE NAME > STREAM
        btrsend interleave STORE SCHEDULE [GUARD..] FILE ..
        btrsend dump FILE
        btrsend text FILE > TEXT
@@ -63,6 +64,7 @@ More:
             not get smaller
   scrub     reads all of STORE, compares its checksums, and writes `scrub GROUPS UNSEALED`
   send      writes a snapshot as a full stream for another store
+  stream    writes the stream of a snapshot as it was received: incremental if that was
   interleave   receives the streams of up to ten FILEs into STORE in turns. Each digit of SCHEDULE
             is the number of a FILE, from 0, of which one command is received. Then each FILE goes
             on to its end. If one is refused, the others go on. GUARDs come before their FILE

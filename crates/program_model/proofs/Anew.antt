@@ -17,9 +17,9 @@ use Rattle.snapshot_model.specs.StoredLaws.{StoredIsReceived}
 use Rattle.snapshot_model.specs.Promises.{IsReceivedAnew}
 use Rattle.snapshot_model.proofs.Holes.{image_is_one_held}
 use Rattle.snapshot_model.proofs.StoredSent.{sent_of_stores, restored_of_stores}
-use Rattle.program_model.specs.Requests.{Base, Nothing, InStore, Compose, Audit, Dump, Text, Pack, Export, Gen, Trial, Init, Drop, Receive, ListAll, Show, Cat, Scrub, Send, Restore, Interleave}
+use Rattle.program_model.specs.Requests.{Base, Nothing, InStore, Compose, Audit, Dump, Text, Pack, Export, Gen, Trial, Init, Drop, Receive, ListAll, Show, Cat, Scrub, Send, Restore, Stream, Interleave}
 use Rattle.program_model.specs.Profiles.{profile}
-use Rattle.program_model.specs.Answers.{Answer, Done, Refused, Usage, InputFault, OutputFault, StoreFault, NoMemory, NoStore, IsMissing, IsFull, IsThere, IsDamaged, IsTooMuch, IsTooLong, InputChanged, Meaning, OfFiles, Says, of_files, of_store, of_base, read_again, packed_from, prints, scrubbed, sent_as}
+use Rattle.program_model.specs.Answers.{Answer, Done, Refused, Usage, InputFault, OutputFault, StoreFault, NoMemory, NoStore, IsMissing, IsFull, IsThere, IsDamaged, IsTooMuch, IsTooLong, InputChanged, Meaning, OfFiles, Says, of_files, of_store, of_base, read_again, packed_from, prints, scrubbed, sent_as, streamed}
 use Rattle.program_model.specs.AnswerMeanings.{SentIsReceivedAnew, RestoredIsReceivedAnew, ReadersKeepTheImage}
 
 abbrev Found : Type 0
@@ -141,6 +141,16 @@ module _ (image : List ℕ) where
     device = λ written left h. h.0;
   }
 
+  streamed_keeps : (name : List ℕ) → Keeps image (streamed image name)
+  streamed_keeps name = record {
+    due = λ due written left h. h.0;
+    input = λ written left h. absurd h;
+    changed = λ written left h. absurd h;
+    output = λ written left h. h.0;
+    memory = λ written left h. h.0;
+    device = λ written left h. h.0;
+  }
+
 pub readers_keep : ReadersKeepTheImage
 unfolding profile
 readers_keep (Compose base files) image bytes answer written left only = keeps_says image _ (again_keeps image _ (base_keeps image base _)) answer written left
@@ -160,4 +170,5 @@ readers_keep (Cat store name path) image bytes answer written left only = keeps_
 readers_keep (Scrub store) image bytes answer written left only = keeps_says image _ (scrub_keeps image) answer written left
 readers_keep (Send store name) image bytes answer written left only = keeps_says image _ (sent_keeps image sent_stream name) answer written left
 readers_keep (Restore store name) image bytes answer written left only = keeps_says image _ (sent_keeps image restored_stream name) answer written left
+readers_keep (Stream store name) image bytes answer written left only = keeps_says image _ (streamed_keeps image name) answer written left
 readers_keep (Interleave store schedule turns) image bytes answer written left only = absurd only

@@ -7,8 +7,9 @@ use Rattle.store_model.proofs.MeantByTurns.{turns_are_done}
 use Rattle.snapshot_model.specs.Sent.{sent_stream}
 use Rattle.snapshot_model.specs.Restored.{restored_stream}
 use Rattle.snapshot_model.proofs.MeantBySending.{send_is_done}
+use Rattle.stream_model.proofs.TakenAgain.{due_is_taken}
 use Rattle.program_model.specs.Answers.{Says, turns_of}
-use Rattle.program_model.specs.AnswerMeanings.{ShowIsOfNamed, CatIsOfNamed, DropIsOfNamed, MissingIsNamed, SendIsOfNamed, RestoreIsOfNamed, NoFilesAreSent, TurnsAreDone}
+use Rattle.program_model.specs.AnswerMeanings.{ShowIsOfNamed, CatIsOfNamed, DropIsOfNamed, MissingIsNamed, SendIsOfNamed, RestoreIsOfNamed, StreamIsOfNamed, NoStreamIsNamed, NoFilesAreSent, TurnsAreDone}
 
 -- No files.
 abbrev no_named : NamedFiles
@@ -48,9 +49,17 @@ pub restore_is_of_named : RestoreIsOfNamed
 unfolding Says
 restore_is_of_named file name image bytes store written left stands h = send_is_done restored_stream image name store written left stands h
 
+pub stream_is_of_named : StreamIsOfNamed
+unfolding Says
+stream_is_of_named file name image bytes written left h = (h.1.1, (due_is_taken image name written h.1.1, h.0))
+
+pub no_stream_is_named : NoStreamIsNamed
+unfolding Says
+no_stream_is_named file name image bytes what written left h = (h.1.0, h.1.1)
+
 pub no_files_are_sent : NoFilesAreSent
 unfolding Says
-no_files_are_sent file name image bytes written left = (λ h. h, λ h. h)
+no_files_are_sent file name image bytes written left = (λ h. h, λ h. h, λ h. h)
 
 pub turns_are_done_so : TurnsAreDone
 unfolding Says

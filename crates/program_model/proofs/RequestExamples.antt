@@ -7,7 +7,7 @@ use Rattle.send_model.specs.Printed.{is_plain, hex_digit, uuid_text}
 use Rattle.program_model.specs.EscapedWords.{hex_value, unescaped, meant_by}
 use Rattle.store_model.specs.Turns.{schedule_of}
 use Rattle.program_model.specs.TurnWords.{turn_files}
-use Rattle.program_model.specs.Requests.{Nothing, InStore, Compose, Audit, Dump, Text, Pack, Drop, Receive, Cat, Scrub, Send, Restore, Interleave, guarded, commands, taken_by, request_in}
+use Rattle.program_model.specs.Requests.{Nothing, InStore, Compose, Audit, Dump, Text, Pack, Drop, Receive, Cat, Scrub, Send, Restore, Stream, Interleave, guarded, commands, taken_by, request_in}
 use Rattle.program_model.specs.FileWords.{given_parent, given_from, given_in}
 use Rattle.send_model.specs.Overridden.{no_override}
 use Rattle.send_model.proofs.ExampleWords.{key}
@@ -25,6 +25,11 @@ sent_words = refl
 restored_words : request_in (codes "restore" ∷ codes "st" ∷ codes "a" ∷ []) ≡ Some (Restore (codes "st") (codes "a"))
 unfolding words_read
 restored_words = refl
+
+-- the stream that was received
+streamed_words : request_in (codes "stream" ∷ codes "st" ∷ codes "a" ∷ []) ≡ Some (Stream (codes "st") (codes "a"))
+unfolding words_read
+streamed_words = refl
 
 -- a word more means nothing
 one_more : request_in (codes "send" ∷ codes "st" ∷ codes "a" ∷ codes "b" ∷ []) ≡ None

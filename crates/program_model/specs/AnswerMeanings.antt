@@ -16,8 +16,9 @@ use Rattle.snapshot_model.specs.Sent.{sent_stream}
 use Rattle.snapshot_model.specs.Restored.{restored_stream}
 use Rattle.snapshot_model.specs.HeldStores.{StandsHeld, Form}
 use Rattle.snapshot_model.specs.Promises.{IsReceivedAnew}
+use Rattle.stream_model.specs.StreamDues.{IsStreamOf, IsStreamedBack}
 use Rattle.program_model.specs.TurnWords.{TurnFiles}
-use Rattle.program_model.specs.Requests.{Request, Text, Pack, Drop, Show, Cat, Send, Restore, Interleave}
+use Rattle.program_model.specs.Requests.{Request, Text, Pack, Drop, Show, Cat, Send, Restore, Stream, Interleave}
 use Rattle.program_model.specs.Profiles.{profile, OnlyReads}
 use Rattle.program_model.specs.Answers.{Answer, Done, Refused, IsMissing, InputFault, Says, meaning_of, turns_of}
 
@@ -98,12 +99,27 @@ RestoredIsReceivedAnew =
     → Says (meaning_of (Restore file name) image bytes) Done written left
     → IsReceivedAnew image name written
 
+-- With status 0 `stream` wrote the own stream of the complete snapshot of that name, and each store
+-- that finds what was there when it was received takes it again; what is missing is this name.
+abbrev pub StreamIsOfNamed : Type 0
+StreamIsOfNamed =
+    (file name : List ℕ) (image : List ℕ) (bytes : List (List ℕ)) (written left : List ℕ)
+    → Says (meaning_of (Stream file name) image bytes) Done written left
+    → IsStreamOf image name written × (IsStreamedBack image name written × (left ≡ image))
+
+abbrev pub NoStreamIsNamed : Type 0
+NoStreamIsNamed =
+    (file name : List ℕ) (image : List ℕ) (bytes : List (List ℕ)) (what written left : List ℕ)
+    → Says (meaning_of (Stream file name) image bytes) (IsMissing what) written left
+    → (what ≡ name) × (written ≡ [])
+
 -- They read no files.
 abbrev pub NoFilesAreSent : Type 0
 NoFilesAreSent =
     (file name : List ℕ) (image : List ℕ) (bytes : List (List ℕ)) (written left : List ℕ)
     → (Says (meaning_of (Send file name) image bytes) InputFault written left → ⊥)
     × (Says (meaning_of (Restore file name) image bytes) InputFault written left → ⊥)
+    × (Says (meaning_of (Stream file name) image bytes) InputFault written left → ⊥)
 
 -- ---- texts of streams
 

@@ -33,9 +33,10 @@ use Rattle.store_model.specs.TurnAnswers.{TurnsDue, TurnsBefore, TurnsInput, Tur
 use Rattle.snapshot_model.specs.Sent.{sent_stream}
 use Rattle.snapshot_model.specs.Restored.{restored_stream}
 use Rattle.snapshot_model.specs.HeldStores.{Form, IsSendDue, SendBefore, SendCut}
+use Rattle.stream_model.specs.StreamDues.{IsStreamDue, StreamBefore, StreamCut}
 use Rattle.program_model.specs.FileWords.{GivenFiles}
 use Rattle.program_model.specs.TurnWords.{TurnFiles}
-use Rattle.program_model.specs.Requests.{Base, Nothing, InStore, Request, Compose, Audit, Dump, Text, Pack, Export, Gen, Trial, Init, Drop, Receive, ListAll, Show, Cat, Scrub, Send, Restore, Interleave}
+use Rattle.program_model.specs.Requests.{Base, Nothing, InStore, Request, Compose, Audit, Dump, Text, Pack, Export, Gen, Trial, Init, Drop, Receive, ListAll, Show, Cat, Scrub, Send, Restore, Stream, Interleave}
 
 -- ---- the answers
 
@@ -402,6 +403,18 @@ sent_as form image name = record {
   crash = never;
 }
 
+-- A snapshot is written as the stream that was received.
+abbrev pub streamed : (image name : List ℕ) → Meaning
+streamed image name = record {
+  due = λ due written left. (left ≡ image) × IsStreamDue image name due written;
+  input = never;
+  changed = never;
+  output = λ written left. (left ≡ image) × StreamCut image name written;
+  memory = λ written left. (left ≡ image) × StreamBefore image name written;
+  device = λ written left. (left ≡ image) × StreamBefore image name written;
+  crash = never;
+}
+
 -- Files are received in turns.
 abbrev pub TurnsSay : InTurns → (image : List ℕ) → Due → Leaves
 TurnsSay turns image (Ends due) written left = TurnsDue turns image (Ends due) written left
@@ -469,3 +482,4 @@ meaning_of (Cat store name path) image bytes =
 meaning_of (Scrub store) image bytes = scrubbed image
 meaning_of (Send store name) image bytes = sent_as sent_stream image name
 meaning_of (Restore store name) image bytes = sent_as restored_stream image name
+meaning_of (Stream store name) image bytes = streamed image name

@@ -33,6 +33,7 @@ pub data Request : Type 0 where
   Scrub : (store : List ℕ) → Request
   Send : (store name : List ℕ) → Request
   Restore : (store name : List ℕ) → Request
+  Stream : (store name : List ℕ) → Request
   Interleave : (store : List ℕ) (schedule : List ℕ) (turns : TurnFiles) → Request
 
 -- ---- arguments
@@ -163,6 +164,7 @@ commands =
     ∷ usage (codes "scrub") (a_store Scrub)
     ∷ usage (codes "send") (a_snapshot Send)
     ∷ usage (codes "restore") (a_snapshot Restore)
+    ∷ usage (codes "stream") (a_snapshot Stream)
     ∷ usage (codes "interleave") (a_schedule Interleave)
     ∷ []
 

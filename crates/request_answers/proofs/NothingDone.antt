@@ -14,13 +14,13 @@ use Rattle.snapshot_model.specs.Sent.{sent_stream}
 use Rattle.snapshot_model.specs.Restored.{restored_stream}
 use Rattle.program_model.specs.FileWords.{GivenFiles}
 use Rattle.program_model.specs.TurnWords.{TurnFiles}
-use Rattle.program_model.specs.Requests.{Base, Nothing, InStore, Compose, Audit, Export, Drop, Receive, Show, Cat, Send, Restore, Interleave}
+use Rattle.program_model.specs.Requests.{Base, Nothing, InStore, Compose, Audit, Export, Drop, Receive, Show, Cat, Send, Restore, Stream, Interleave}
 use Rattle.program_model.specs.Profiles.{profile}
 use Rattle.program_model.specs.Answers.{Done, Refused, NoMemory, Says, meaning_of, as_said}
 use Rattle.request_answers.specs.Objects.{Objects}
 use Rattle.request_answers.specs.Promises.{Answers, is_one_of}
 use Rattle.request_answers.proofs.Saying as saying
-use Rattle.request_answers.proofs.Saying.{Covers, SameFiles, nothing_said, nothing_sent, sent_unfinished, restored_unfinished}
+use Rattle.request_answers.proofs.Saying.{Covers, SameFiles, nothing_said, nothing_sent, sent_unfinished, restored_unfinished, nothing_streamed, streamed_unfinished}
 use Rattle.turn_sessions.proofs.Answering.{unmoved}
 use Rattle.request_answers.proofs.Still.{Still, bytes_any, nothing_done}
 
@@ -113,6 +113,11 @@ module _ (o : Objects) (s : Still o) where
   unfolding profile is_one_of Says
   restore_nothing store name = nothing_done o s (Restore store name) refl (λ bytes. (refl, nothing_sent restored_stream o.contents name))
       (record { whole = λ done. absurd (not_done done); in_part = λ other faithful. ([], s.nothing, restored_unfinished o.contents name) })
+
+  pub stream_nothing : (store name : List ℕ) → Answers o (Stream store name) NoMemory
+  unfolding profile is_one_of Says
+  stream_nothing store name = nothing_done o s (Stream store name) refl (λ bytes. (refl, nothing_streamed o.contents name))
+      (record { whole = λ done. absurd (not_done done); in_part = λ other faithful. ([], s.nothing, streamed_unfinished o.contents name) })
 
   pub receive_nothing : (guards : List GuardSpec) (store : List ℕ) (files : GivenFiles) → Answers o (Receive guards store files) NoMemory
   unfolding profile is_one_of Says

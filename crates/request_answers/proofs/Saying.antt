@@ -31,7 +31,9 @@ use Rattle.snapshot_model.specs.Sent.{sent_stream, sent_version}
 use Rattle.snapshot_model.specs.Restored.{restored_stream}
 use Rattle.store_model.specs.TurnDues.{InTurns}
 use Rattle.store_model.specs.TurnAnswers.{TurnsAnswer}
-use Rattle.program_model.specs.Answers.{sent_as, received_in_turns}
+use Rattle.stream_model.specs.OwnStream.{Edits, own_stream}
+use Rattle.stream_model.specs.StreamDues.{StreamAnswers, StreamBefore, IsUnfinishedStream}
+use Rattle.program_model.specs.Answers.{sent_as, streamed, received_in_turns}
 use Rattle.send_model.specs.Sources.{sources, SaysOfFiles}
 use Rattle.send_model.proofs.SourceLaws.{says_of_files, no_overrides_change_nothing}
 use Rattle.send_model.specs.Spelling.{stream_header}
@@ -327,6 +329,25 @@ module _ (form : Form) (image name : List ℕ) (written left : List ℕ) where
   sent_says (said.StoreThere size) h = h
   sent_says (said.Damaged group stored computed) h = h
 
+module _ (image name : List ℕ) (written left : List ℕ) where
+  unfoldable pub streamed_says : (answer : said.Answer) → StreamAnswers image name answer written left → Says (streamed image name) (flat answer) written left
+  unfolding Says
+  streamed_says (said.OfAnyWord answers.Done) h = h
+  streamed_says (said.OfAnyWord (answers.Refused verdict)) h = absurd h.1
+  streamed_says (said.OfAnyWord answers.Usage) h = h.1
+  streamed_says (said.OfAnyWord answers.InputFault) h = h.1
+  streamed_says (said.OfAnyWord answers.OutputFault) h = h
+  streamed_says (said.OfAnyWord answers.NoMemory) h = h
+  streamed_says (said.OfAnyWord (answers.InputTooLong file)) h = absurd h.1
+  streamed_says (said.OfAnyWord (answers.TooMuch sum)) h = absurd h.1
+  streamed_says (said.OfAnyWord (answers.InputChanged file place)) h = h.1
+  streamed_says said.StoreFault h = h
+  streamed_says (said.NotStore group) h = h
+  streamed_says (said.Missing what) h = h
+  streamed_says (said.LogFull end wanted limit) h = h
+  streamed_says (said.StoreThere size) h = h
+  streamed_says (said.Damaged group stored computed) h = h
+
 module _ (turns : InTurns) (image written left : List ℕ) where
   unfoldable pub turns_say : (answer : said.Answer) → TurnsAnswer turns image answer written left → Says (received_in_turns turns image) (flat answer) written left
   unfolding Says
@@ -374,3 +395,15 @@ sent_unfinished image name = unfinished sent_stream image name sent_some
 
 pub restored_unfinished : (image name : List ℕ) → IsUnfinished restored_stream image name []
 restored_unfinished image name = unfinished restored_stream image name restored_some
+
+-- Nothing of the stream that was received is written, and it is not empty.
+pub nothing_streamed : (image name : List ℕ) → StreamBefore image name []
+nothing_streamed image name due whole is = record { count = 0; within = omega arith; written_is = refl }
+
+own_some : (e : Entry (Subvolume ℕ)) (edits : Edits) → 0 < length (own_stream e edits)
+unfolding own_stream
+own_some e edits = header_some edits.version _
+
+pub streamed_unfinished : (image name : List ℕ) → IsUnfinishedStream image name []
+streamed_unfinished image name whole own =
+    record { count = 0; within = subst (λ (bytes : List ℕ). 0 < length bytes) (sym own.is) (own_some own.found.0 own.edits); written_is = refl }

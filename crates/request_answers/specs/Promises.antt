@@ -13,8 +13,9 @@ use Rattle.snapshot_model.specs.HeldStores.{Form}
 use Rattle.snapshot_model.specs.Sent.{sent_stream}
 use Rattle.snapshot_model.specs.Restored.{restored_stream}
 use Rattle.snapshot_model.specs.Promises.{IsReceivedAnew, IsUnfinished}
+use Rattle.stream_model.specs.StreamDues.{IsStreamedBack, IsUnfinishedStream}
 use Rattle.program_model.specs.FileWords.{GivenFiles}
-use Rattle.program_model.specs.Requests.{Base, Nothing, InStore, Request, Compose, Audit, Dump, Text, Pack, Export, Gen, Trial, Init, Drop, Receive, ListAll, Show, Cat, Scrub, Send, Restore, Interleave}
+use Rattle.program_model.specs.Requests.{Base, Nothing, InStore, Request, Compose, Audit, Dump, Text, Pack, Export, Gen, Trial, Init, Drop, Receive, ListAll, Show, Cat, Scrub, Send, Restore, Stream, Interleave}
 use Rattle.program_model.specs.Profiles.{profile, How, NoFiles, Once, Twice, InTurns, Makes, Changes, Reads, StoreAccess, OnlyReads}
 use Rattle.program_model.specs.Answers.{Answer, Done, Refused, Usage, InputFault, OutputFault, StoreFault, NoMemory, NoStore, IsMissing, IsFull, IsThere, IsDamaged, IsTooMuch, IsTooLong, InputChanged, status_of, Says, meaning_of}
 use Rattle.sx_base.specs.Asks.{Ask, AreReadOnce, AreReadTwice}
@@ -150,11 +151,19 @@ pub record IsSentAs (objects : Objects) (form : Form) (name : List ℕ)
   pub in_part : answer ≢ Done → objects.IsFaithful → Wrote objects.output objects.output_after
       (λ written. IsUnfinished form objects.contents name written)
 
+-- `stream` wrote the snapshot's own stream, which can be received again; or some of it is missing.
+pub record IsStreamedAs (objects : Objects) (name : List ℕ) (answer : Answer) : Type 0 where
+  pub whole : answer ≡ Done → objects.IsFaithful → Wrote objects.output objects.output_after
+      (λ written. IsStreamedBack objects.contents name written)
+  pub in_part : answer ≢ Done → objects.IsFaithful → Wrote objects.output objects.output_after
+      (λ written. IsUnfinishedStream objects.contents name written)
+
 abbrev pub Promised : Objects → Request → Answer → Type 0
 Promised objects (Compose base files) answer = IsMergedAs objects base files answer
 Promised objects (Export base files) answer = IsExportedAs objects base files answer
 Promised objects (Send store name) answer = IsSentAs objects sent_stream name answer
 Promised objects (Restore store name) answer = IsSentAs objects restored_stream name answer
+Promised objects (Stream store name) answer = IsStreamedAs objects name answer
 Promised objects (Audit guards base files) answer = ⊤
 Promised objects (Dump file) answer = ⊤
 Promised objects (Text file) answer = ⊤

@@ -10,6 +10,7 @@ ghost use Rattle.request_answers.specs.Promises.{Answers};
 use crate::endings::Answer;
 use crate::entries::{
     StoredPath, cat_answer, list_answer, restore_answer, scrub_answer, send_answer, show_answer,
+    stream_answer,
 };
 use crate::merging::{Chain, audit_answer, compose_answer, export_answer};
 use crate::putting::{Putting, drop_answer, init_answer, interleave_answer, receive_answer};
@@ -73,6 +74,7 @@ pub fn answer<I: Inputs, O: Sink, D: Disk>(
         Request::Scrub { .. } => scrub_answer(alloc, inputs, out, disk),
         Request::Send { name, .. } => send_answer(alloc, &name, inputs, out, disk),
         Request::Restore { name, .. } => restore_answer(alloc, &name, inputs, out, disk),
+        Request::Stream { name, .. } => stream_answer(alloc, &name, inputs, out, disk),
         Request::Interleave { turns, .. } => interleave_answer(alloc, &turns, inputs, out, disk),
     }
 }

@@ -10,6 +10,7 @@ use command_line::Word;
 use full_send::{restore_entry, send_entry};
 use std::alloc::Global;
 use store_commands::{cat_file, list_store, scrub_store, show_entry};
+use stream_back::stream_entry;
 use sx_base::{Blob, Disk, Inputs, Sink};
 
 /// What listing a store answers.
@@ -131,5 +132,25 @@ pub(crate) fn restore_answer<I: Inputs, O: Sink, D: Disk>(
         return no_memory();
     };
     let end = restore_entry(alloc, disk, name.as_slice(), out);
+    named_answer(end, name, Blob::new(alloc))
+}
+
+/// What writing a snapshot as the stream that was received answers.
+pub(crate) fn stream_answer<I: Inputs, O: Sink, D: Disk>(
+    alloc: Global,
+    name: &Word<'_>,
+    inputs: &mut I,
+    out: &mut O,
+    disk: &mut D,
+) -> Answer
+    ensures { (store : List ℕ) → Answers (objects_of I.Inputs inputs.old inputs.new
+        O.Sink out.old out.new D.Disk disk.old disk.new)
+        (requests.Stream store name.now) (answer_of result) }
+{
+    let _ = inputs;
+    let Ok(name) = name.bytes(alloc) else {
+        return no_memory();
+    };
+    let end = stream_entry(alloc, disk, name.as_slice(), out);
     named_answer(end, name, Blob::new(alloc))
 }

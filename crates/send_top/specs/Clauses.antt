@@ -13,8 +13,9 @@ use Rattle.send_model.specs.ExportPromises.{IsExportedOf}
 use Rattle.snapshot_model.specs.Sent.{sent_stream}
 use Rattle.snapshot_model.specs.Restored.{restored_stream}
 use Rattle.snapshot_model.specs.Promises.{IsReceivedAnew, IsUnfinished}
+use Rattle.stream_model.specs.StreamDues.{IsStreamedBack, IsUnfinishedStream}
 use Rattle.program_model.specs.FileWords.{GivenFiles}
-use Rattle.program_model.specs.Requests.{Base, Request, Compose, Export, Send, Restore, request_in}
+use Rattle.program_model.specs.Requests.{Base, Request, Compose, Export, Send, Restore, Stream, request_in}
 use Rattle.program_model.specs.Profiles.{profile, NoFiles, OnlyReads}
 use Rattle.program_model.specs.Answers.{Answer, status_of, note_of, Says, meaning_of}
 use Rattle.sx_base.specs.Calls.{Wrote}
@@ -162,7 +163,7 @@ pub record IsExported (run : Run) : Type 0 where
       (λ s bytes written. AllByRecursion IsBytes bytes → IsExportedOf s
       (reading_of files bytes) written)
 
--- ---- 7. what is sent and restored
+-- ---- 7. what is sent, restored and streamed
 
 pub record IsSent (run : Run) : Type 0 where
   -- with status 0 the stream makes the snapshot anew, in every store without its name and UUID
@@ -179,6 +180,16 @@ pub record IsSent (run : Run) : Type 0 where
       → Asks run (Restore store name)
       → Wrote run.objects.output run.objects.output_after
       (λ written. IsUnfinished restored_stream run.objects.contents name written)
+  -- with status 0 `stream` wrote the snapshot's own stream: each store that finds what was there
+  -- when it was received takes it, and gets an entry equal to the one that is stored
+  pub streamed : run.status ≡ 0 → run.objects.IsFaithful → (store name : List ℕ)
+      → Asks run (Stream store name)
+      → Wrote run.objects.output run.objects.output_after
+      (λ written. IsStreamedBack run.objects.contents name written)
+  pub streamed_in_part : (run.status ≡ 0 → ⊥) → run.objects.IsFaithful → (store name : List ℕ)
+      → Asks run (Stream store name)
+      → Wrote run.objects.output run.objects.output_after
+      (λ written. IsUnfinishedStream run.objects.contents name written)
 
 -- ---- 8. crashes
 

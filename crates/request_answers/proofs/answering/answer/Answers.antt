@@ -36,5 +36,8 @@ returns-in-Send g c = rw c.in-Send.is (c.send_answer.ensures c.in-Send.store.now
 pub returns-in-Restore : goal.returns-in-Restore
 returns-in-Restore g c = rw c.in-Restore.is (c.restore_answer.ensures c.in-Restore.store.now)
 
+pub returns-in-Stream : goal.returns-in-Stream
+returns-in-Stream g c = rw c.in-Stream.is (c.stream_answer.ensures c.in-Stream.store.now)
+
 pub returns-in-Interleave : goal.returns-in-Interleave
 returns-in-Interleave g c = rw c.in-Interleave.is (c.interleave_answer.ensures c.in-Interleave.store.now)

@@ -1,0 +1,4 @@
+mod Room
+mod Places
+mod Parts
+mod StreamEnds
