@@ -1,27 +1,26 @@
 -- Fates, from the places that live in a range, up to those of a whole log.
-use Rattle.std.specs.Prelude.{◌≡◌, ◌≢◌, ℕ, zero, suc, ◌+◌, ◌-◌, ◌<◌, ◌≤◌, Bool, true, false, not, ◌&&◌, ◌||◌, List, [], ◌∷◌, ◌++◌, length, drop, min, Option, None, Some, nat_lt, is_some, is_none, if◌then◌else◌, ◌⊎◌}
+use Rattle.std.specs.Prelude.{◌≡◌, ℕ, zero, suc, ◌+◌, ◌-◌, ◌<◌, ◌≤◌, Bool, true, false, not, ◌&&◌, List, [], ◌∷◌, ◌++◌, length, drop, min, Option, None, Some, nat_lt, is_some, if◌then◌else◌, ◌⊎◌}
 use Rattle.std.specs.List.{list_all, range_with_len}
 use Rattle.std.specs.Option.{option_to_list}
 use Rattle.std.specs.BTreeMap.{BTreeMap, get}
 use Rattle.std.specs.Ordering.{nat_cmp}
-use Rattle.std.proofs.Common.{refl, sym, ap, ap₂, subst, ◌∙◌, arith, append_assoc, add-zero, length-append, inl, inr}
+use Rattle.std.proofs.Common.{refl, sym, ap, ap₂, ◌∙◌, arith, append_assoc, length-append, inl, inr}
 use Rattle.std.proofs.lemmas.Bool.{cases_eq, cases_lt}
 use Rattle.std.proofs.lemmas.List.{append-nil, take_all}
 use Rattle.extent_map.specs.Cells.{cells_between}
 use Rattle.extent_map.specs.Pieces.{piece_cells}
 use Rattle.extent_map.specs.declared.nowhere.Nowhere.{Nowhere}
 use Rattle.extent_map.proofs.CellLists.{length-between}
-use Rattle.extent_map.proofs.PieceByPiece.{reaches, left_after, all_had}
+use Rattle.extent_map.proofs.PieceByPiece.{reaches, all_had}
 use Rattle.squash_model.specs.Liveness.{Living}
 use Rattle.squash_log.specs.declared.change.FileRange.{FileRange}
 use Rattle.squash_log.specs.declared.change.Change.{Change}
 use Rattle.squash_log.specs.declared.fate.Span.{Span}
-use Rattle.squash_log.specs.declared.fates.Mark.{Mark}
 use Rattle.squash_log.specs.declared.fates.Mark.TheVariants as mark
 use Rattle.squash_log.specs.Changes.{before, before_all}
 use Rattle.squash_log.specs.Cells.{Cells, cell_lives, lives_from, lives_by, lives_in, IsSameLiving}
-use Rattle.squash_log.specs.Fates.{Fate, Whole, Parts, span_before, spans, fate_by, fate_in, own_fate, fates_of}
-use Rattle.squash_log.specs.Stacks.{grown, IsMarked, marked, count_of}
+use Rattle.squash_log.specs.Fates.{Fate, Whole, Parts, spans, fate_by, fate_in, own_fate, fates_of}
+use Rattle.squash_log.specs.Stacks.{grown, IsMarked}
 use Rattle.squash_log.proofs.KeptCells.{piece_at, between_read, past_dead}
 use Rattle.squash_log.proofs.SpanRuns.{left_spans, spans_from_start, left_run, left_hole, left_dead}
 

@@ -1,8 +1,8 @@
 -- Which places live in contents that were cut, zeroed, written or copied.
-use Rattle.std.specs.Prelude.{◌≡◌, ℕ, zero, ◌+◌, ◌-◌, ◌<◌, ◌≤◌, Bool, true, false, not, ◌&&◌, ◌||◌, List, [], ◌++◌, length, take, drop, get_or, min, Option, None, Some, nat_le, nat_lt, is_some, ◌⊎◌}
-use Rattle.std.proofs.Common.{refl, sym, ap, ap₂, subst, ◌∙◌, arith, inl, inr}
+use Rattle.std.specs.Prelude.{◌≡◌, ℕ, ◌+◌, ◌-◌, ◌<◌, ◌≤◌, Bool, true, false, not, ◌&&◌, ◌||◌, [], ◌++◌, length, drop, get_or, min, Option, None, Some, nat_le, nat_lt, is_some, ◌⊎◌}
+use Rattle.std.proofs.Common.{refl, sym, ap, ap₂, ◌∙◌, arith, inl, inr}
 use Rattle.std.proofs.lemmas.Bool.{cases_lt}
-use Rattle.std.proofs.lemmas.List.{get_or_past, get_or-take, get_or-drop, get_or_append_left, length-take, length-drop}
+use Rattle.std.proofs.lemmas.List.{get_or_past, get_or-take, get_or-drop, get_or_append_left, length-take}
 use Rattle.extent_map.specs.Cells.{resize_cells, put_cells, cells_between}
 use Rattle.extent_map.specs.Pieces.{run_cells, zero_cells, piece_cells}
 use Rattle.extent_map.proofs.CellLists.{get_or-resize_below, length-resize, get_or-put_outside, get_or-put_inside, put_first}
@@ -11,7 +11,7 @@ use Rattle.extent_map.specs.declared.nowhere.Nowhere.{Nowhere}
 use Rattle.squash_model.specs.Liveness.{covers}
 use Rattle.squash_model.proofs.LiveReads.{covered, uncovered, covers_true}
 use Rattle.squash_log.specs.Cells.{Cells, cell_lives, IsBelow, IsOutside, IsBeside, IsWithRange, IsPartOf, IsWithPart}
-use Rattle.squash_log.proofs.Tests.{lt_yes, lt_no, le_yes, le_no, covers_no, covers_from, and_assoc, or_assoc, or_turn}
+use Rattle.squash_log.proofs.RangeTests.{lt_yes, lt_no, le_yes, le_no, covers_no, and_assoc, or_assoc}
 
 -- A place behind the cells does not live.
 pub past_dead : (cells : Cells) (p : ℕ) → length cells ≤ p → cell_lives cells p ≡ false

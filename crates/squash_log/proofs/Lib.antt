@@ -1,4 +1,4 @@
-pub mod Tests
+pub mod RangeTests
 pub mod KeptCells
 pub mod LivingMaps
 pub mod SpanRuns

@@ -1,14 +1,14 @@
 -- Which places live once one file's cells were taken out, changed and put in again.
-use Rattle.std.specs.Prelude.{◌≡◌, ◌≢◌, ℕ, ◌+◌, ◌-◌, ◌<◌, ◌≤◌, ◌==◌, Bool, true, false, not, ◌&&◌, ◌||◌, Option, None, Some, min, nat_le, nat_lt, is_some, if◌then◌else◌, ◌⊎◌}
+use Rattle.std.specs.Prelude.{◌≡◌, ◌≢◌, ℕ, ◌+◌, ◌-◌, ◌==◌, Bool, true, false, not, ◌&&◌, ◌||◌, Option, None, Some, min, nat_le, nat_lt, if◌then◌else◌}
 use Rattle.std.specs.BTreeMap.{BTreeMap, get}
 use Rattle.std.specs.Ordering.{nat_cmp}
-use Rattle.std.proofs.Common.{refl, sym, ap, ap₂, subst, ◌∙◌, arith, inl, inr, eqb-true}
+use Rattle.std.proofs.Common.{refl, sym, ap, ap₂, ◌∙◌, arith, inl, inr, eqb-true}
 use Rattle.std.proofs.lemmas.Bool.{cases_eq, cases_lt, eq-eqb, ltb-true, false_from_ne_true}
-use Rattle.squash_model.specs.Liveness.{Living, covers, live_beside, live_cut, live_copied}
+use Rattle.squash_model.specs.Liveness.{Living, covers, live_cut}
 use Rattle.squash_log.specs.declared.change.FileRange.{FileRange}
 use Rattle.squash_log.specs.Changes.{before_range, before_clone}
-use Rattle.squash_log.specs.Cells.{Cells, cell_lives, lives_by, lives_at, lives_in, IsBelow, IsBeside, IsWithPart, IsKept, IsTaken, IsOpened, IsSameLiving, IsPartIn, with_part}
-use Rattle.squash_log.proofs.Tests.{lt_yes, lt_no, covers_from, and_assoc, or_turn}
+use Rattle.squash_log.specs.Cells.{Cells, cell_lives, lives_by, lives_in, IsBelow, IsBeside, IsWithPart, IsKept, IsTaken, IsOpened, IsSameLiving, IsPartIn, with_part}
+use Rattle.squash_log.proofs.RangeTests.{lt_yes, lt_no, covers_from, and_assoc, or_turn}
 
 pub eq_yes : (i j : ℕ) → i ≡ j → (i == j) ≡ true
 eq_yes i j e = eq-eqb i j e

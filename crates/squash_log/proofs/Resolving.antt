@@ -1,42 +1,39 @@
 -- What lives before commands is what lives before what they did, and what stands for a WRITE by its
 -- fate is what squashing by what lives makes of it.
-use Rattle.std.specs.Prelude.{◌≡◌, ℕ, zero, suc, ◌+◌, ◌-◌, ◌<◌, ◌≤◌, ◌==◌, Bool, true, false, not, ◌&&◌, ◌||◌, List, [], ◌∷◌, ◌++◌, map, length, take, drop, Option, None, Some, Result, Ok, Err, nat_lt, is_some, if◌then◌else◌}
+use Rattle.std.specs.Prelude.{◌≡◌, ℕ, suc, ◌+◌, ◌-◌, ◌<◌, ◌==◌, Bool, true, false, not, ◌&&◌, ◌||◌, List, [], ◌∷◌, ◌++◌, map, length, take, drop, Option, None, Some, Result, Ok, Err, nat_lt, is_some, if◌then◌else◌}
 use Rattle.std.specs.List.{list_any, list_all, range_with_len}
 use Rattle.std.specs.Option.{option_map}
 use Rattle.std.specs.Str.{bytes_eq}
-use Rattle.std.proofs.Common.{refl, sym, ap, ap₂, subst, ◌∙◌, arith, append_assoc, length-append, inl, inr, eqb-true}
+use Rattle.std.proofs.Common.{refl, sym, ap, ap₂, subst, ◌∙◌, arith, append_assoc, inl, inr, eqb-true}
 use Rattle.std.proofs.lemmas.Bool.{cases_eq, or_parts}
-use Rattle.std.proofs.lemmas.List.{append-nil, length-map, drop-drop}
-use Rattle.send_model.specs.Refusal.{Refusal, NoSubvolume, NotFile, FileTooBig}
+use Rattle.std.proofs.lemmas.List.{length-map, drop-drop}
+use Rattle.send_model.specs.Refusal.{Refusal, NoSubvolume}
 use Rattle.send_model.specs.Command.{Command, Write, Clone, Truncate, Fallocate, End}
-use Rattle.send_model.specs.Subvolume.{Inode, Subvolume, inode_at, walk, is_file}
-use Rattle.send_model.specs.Edit.{greatest_end, change_contents, edit, allocation_of, Allocation, Lengthen, KeepSize, PunchHole, ZeroRange, ZeroWithin}
+use Rattle.send_model.specs.Subvolume.{Inode, Subvolume, inode_at, walk}
+use Rattle.send_model.specs.Edit.{change_contents, edit, allocation_of, Allocation, Lengthen, KeepSize, PunchHole, ZeroRange, ZeroWithin}
 use Rattle.send_model.specs.Clone.{cells_of}
-use Rattle.send_model.specs.Store.{Key, Head, head_of, Store, Part, State, Stepped, step, edit_part, edited}
-use Rattle.send_model.specs.Receive.{bytes_of, start_of, byte_cells, run_items, IsAccepted}
-use Rattle.send_model.specs.Reading.{Item}
-use Rattle.send_model.specs.Order.{heads, heads_of, commands_of}
+use Rattle.send_model.specs.Store.{Store, Part, State, Stepped, step, edit_part}
+use Rattle.send_model.specs.Receive.{bytes_of, start_of, byte_cells, run_items}
+use Rattle.send_model.specs.Order.{commands_of}
 use Rattle.send_model.specs.Counts.{is_end}
-use Rattle.send_model.specs.Outside.{keys_outside, FindsLawful}
-use Rattle.send_model.specs.Cells.{recelled, recelled_part, recelled_state, recelled_step, recelled_store}
-use Rattle.send_model.proofs.Fuel.{required, bound}
+use Rattle.send_model.specs.Cells.{recelled, recelled_part, recelled_state}
+use Rattle.send_model.proofs.Fuel.{bound}
 use Rattle.send_model.proofs.CellMaps.{reinode, inode_at-cells, walk-cells}
 use Rattle.send_model.proofs.CellClones.{all_steps-cells, cells_of-cells}
 use Rattle.send_model.proofs.Merging.{edited_taken}
 use Rattle.send_model.proofs.Runs.{Takes, takes_run}
-use Rattle.squash_model.specs.Squashed.{Birth, births_from, born_step, unborn, stretches, in_front, Stretch, all_stand, write_of, lengthened, write_commands, size_at, squash_for, squashed_of}
-use Rattle.squash_model.specs.Liveness.{Living, live_beside, live_cut, live_copied, live_allocated, at_file, size_of, live_before, all_live, live_at, live_from, byte_lives, squashed_live}
+use Rattle.squash_model.specs.Squashed.{Birth, births_from, born_step, unborn, stretches, in_front, Stretch, write_of, lengthened, write_commands, size_at, squash_for}
+use Rattle.squash_model.specs.Liveness.{Living, live_beside, live_copied, live_allocated, at_file, size_of, live_before, all_live, live_at, live_from, byte_lives, squashed_live}
 use Rattle.squash_model.proofs.StandingCells.{store_twice}
 use Rattle.squash_model.proofs.SameSquash.{inner_step, inner_refused, BornTakes, starts_born}
 use Rattle.squash_model.proofs.SquashProved.{takes_lead}
 use Rattle.squash_model.proofs.PlacedBirths.{same_write}
-use Rattle.squash_model.proofs.LiveCommands.{births_len}
 use Rattle.squash_model.proofs.LiveSquash.{liveness_squashes_the_same}
 use Rattle.squash_log.specs.declared.change.FileRange.{FileRange}
 use Rattle.squash_log.specs.declared.change.Change.{Change}
 use Rattle.squash_log.specs.declared.change.Change.TheVariants as made
 use Rattle.squash_log.specs.declared.fate.Span.{Span}
-use Rattle.squash_log.proofs.Tests.{or_none}
+use Rattle.squash_log.proofs.RangeTests.{or_none}
 use Rattle.squash_log.proofs.LivingMaps.{eq_yes, eq_no}
 use Rattle.squash_log.specs.Changes.{before, before_all}
 use Rattle.squash_log.specs.Fates.{Fate, Whole, Parts, span_before, spans, fate_by, fate_in, own_fate, fates_of}
@@ -142,11 +139,11 @@ module _ {C D : Type 0} (f : C → D) where
       (λ ino. cloned_changes part.subvolume (bytes_eq uuid part.key.uuid) ino offset clone_path from len) [] (λ ino. cloned_same part.subvolume (bytes_eq uuid part.key.uuid) ino offset clone_path from len)
   changes_same part c = refl
 
-  changes_same_at : (o : Option (Part C)) (c : Command) → changes_at (option_map (recelled_part f) o) c ≡ changes_at o c
+  pub changes_same_at : (o : Option (Part C)) (c : Command) → changes_at (option_map (recelled_part f) o) c ≡ changes_at o c
   changes_same_at None c = refl
   changes_same_at (Some part) c = changes_same part c
 
-  there_same : (o : Option (Part C)) → all_live (option_map (recelled_part f) o) ≡ all_live o
+  pub there_same : (o : Option (Part C)) → all_live (option_map (recelled_part f) o) ≡ all_live o
   there_same None = refl
   there_same (Some part) = λ k i p. (ap (λ (x : Option (Inode D)). is_some x) (inode_at-cells f part.subvolume i) ∙ some_map (inode_at part.subvolume i)) k
     where

@@ -1,6 +1,6 @@
 -- Places that live, kept as contents over an origin that points nowhere: a place lives that has a
--- cell of a run. Of a file that no change spoke of yet, each place lives if the file is there in the
--- end. This program's own.
+-- cell of a run. Of a file that no change spoke of yet, each place lives if the file is there in
+-- the end. This program's own.
 use Rattle.std.specs.Prelude.{◌≡◌, ◌≢◌, ℕ, ◌+◌, ◌-◌, ◌<◌, ◌==◌, Bool, true, false, not, ◌&&◌, ◌||◌, List, Option, None, Some, get_or, nat_le, nat_lt, is_some}
 use Rattle.std.specs.BTreeMap.{BTreeMap, get}
 use Rattle.std.specs.Ordering.{nat_cmp}

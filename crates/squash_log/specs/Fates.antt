@@ -8,7 +8,7 @@ use Rattle.squash_log.specs.declared.change.Change.TheVariants as made
 use Rattle.squash_log.specs.declared.fate.Span.{Span}
 use Rattle.squash_log.specs.declared.fate.Fate as code
 use Rattle.squash_log.specs.declared.fate.Fate.TheVariants as coded
-use Rattle.squash_log.specs.Changes.{before, before_all}
+use Rattle.squash_log.specs.Changes.{before_all}
 
 -- A byte that lives, in front of the stretches behind it.
 abbrev pub span_before : ℕ → List Span → List Span

@@ -10,6 +10,8 @@ mod file_lives;
 mod laws;
 mod lives;
 mod log;
+#[cfg(test)]
+mod tests;
 
 pub use change::{Change, FileRange};
 pub use fate::{Fate, Span};

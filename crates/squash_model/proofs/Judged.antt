@@ -18,12 +18,12 @@ use Rattle.squash_model.specs.SquashJudge.{Passed, nothing_passed, passed_with, 
 use Rattle.squash_model.proofs.SquashedFiles.{squashed_readings_hold}
 
 -- What a command without a verdict says.
-record Allowed (item : Item) (state : State ℕ) (passed : Passed) (rest : Option Verdict) : Type 0 where
-  taken : (step 0 (byte_cells item) state item.command).refusal ≡ None
-  first : is_second passed item ≡ false
-  later : rest ≡ None
+pub record Allowed (item : Item) (state : State ℕ) (passed : Passed) (rest : Option Verdict) : Type 0 where
+  pub taken : (step 0 (byte_cells item) state item.command).refusal ≡ None
+  pub first : is_second passed item ≡ false
+  pub later : rest ≡ None
 
-allowed : (item : Item) (state : State ℕ) (passed : Passed) (rest : Option Verdict) → then_judge item (step 0 (byte_cells item) state item.command) (is_second passed item) rest ≡ None → Allowed item state passed rest
+pub allowed : (item : Item) (state : State ℕ) (passed : Passed) (rest : Option Verdict) → then_judge item (step 0 (byte_cells item) state item.command) (is_second passed item) rest ≡ None → Allowed item state passed rest
 allowed item state passed rest e = one (step 0 (byte_cells item) state item.command).refusal refl (is_second passed item) refl e
   where
     one : (o : Option Refusal) → (step 0 (byte_cells item) state item.command).refusal ≡ o → (b : Bool) → is_second passed item ≡ b
@@ -50,7 +50,7 @@ false_parts : (a b : Bool) → a || b ≡ false → (a ≡ false) × (b ≡ fals
 false_parts true b e = cc
 false_parts false b e = (refl, e)
 
-nothing_behind : (items : List Item) (state : State ℕ) (passed : Passed) → passed.closed ≡ true → judge_one state passed items ≡ None → items ≡ []
+pub nothing_behind : (items : List Item) (state : State ℕ) (passed : Passed) → passed.closed ≡ true → judge_one state passed items ≡ None → items ≡ []
 unfolding judge_one
 nothing_behind [] state passed c e = refl
 nothing_behind (item ∷ items) state passed c e =
@@ -87,7 +87,7 @@ one_end (item ∷ items) state passed e =
         let first = sum_by-cons end_of item.command (commands_of items) in
         omega (arith, more, here, first)
 
-no_head : (items : List Item) (state : State ℕ) (passed : Passed) → passed.begun ≡ true → judge_one state passed items ≡ None → heads_of (commands_of items) ≡ []
+pub no_head : (items : List Item) (state : State ℕ) (passed : Passed) → passed.begun ≡ true → judge_one state passed items ≡ None → heads_of (commands_of items) ≡ []
 unfolding judge_one heads_of
 no_head [] state passed b e = refl
 no_head (item ∷ items) state passed b e =

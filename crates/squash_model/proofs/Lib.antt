@@ -17,6 +17,7 @@ pub mod PlacedBirths
 pub mod PlacedFiles
 pub mod KeptBytes
 pub mod Judged
+pub mod JudgedDues
 pub mod LiveReads
 pub mod KeptCells
 pub mod LiveSteps

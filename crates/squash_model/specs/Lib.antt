@@ -3,4 +3,5 @@ pub mod SquashLaws
 pub mod SquashedStreams
 pub mod PlacedSquash
 pub mod SquashJudge
+pub mod SquashDues
 pub mod Liveness

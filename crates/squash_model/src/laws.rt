@@ -2,6 +2,7 @@
 ghost use Rattle.squash_model.specs.SquashLaws.{SquashedLeadsTheSame, SquashedIsTheSame, SquashedCarriesWhatStands, SquashedPutsWhatStands, SquashedKeepsAllElse, WhatStandsStays, SquashedTwiceIsOnce, StandsInLast};
 ghost use Rattle.squash_model.specs.SquashedStreams.{SquashedReadingsHold, SquashedFilesHold};
 ghost use Rattle.squash_model.specs.SquashJudge.{JudgedIsOneStream, JudgedIsSquashed, LawfulStoresSquash};
+ghost use Rattle.squash_model.specs.SquashDues.{DoneHasNoVerdict, DoneIsOverTheSameBase};
 ghost use Rattle.squash_model.specs.PlacedSquash.{PlacesSquashTheSame, FilesArePlaced};
 ghost use Rattle.squash_model.specs.Liveness.{LivenessSquashesTheSame, LivenessLooksAtNoCells};
 
@@ -23,13 +24,16 @@ pub fn squashed_commands_make_the_same()
 {}
 
 /// What is written for one stream is read as its squashed commands, and every store that takes the
-/// stream takes it and comes to the same. What has no verdict is one stream with one part.
+/// stream takes it and comes to the same. What has no verdict is one stream with one part. Where all
+/// is done there is none, and the base is the one over which the file is composed.
 pub fn squashed_streams_are_taken()
     ensures readings { SquashedReadingsHold }
     ensures files { SquashedFilesHold }
     ensures one { JudgedIsOneStream }
     ensures judged { JudgedIsSquashed }
     ensures stores { LawfulStoresSquash }
+    ensures done { DoneHasNoVerdict }
+    ensures same_base { DoneIsOverTheSameBase }
 {}
 
 /// By the places where bytes stand in their file, in place of their numbers, commands are squashed

@@ -1,8 +1,7 @@
-use Rattle.std.proofs.Common.{◌≡◌, ℕ, refl, sym, ◌∙◌, ap, arith, rules}
 use Rattle.squash_log.specs.Cells.{lives_in}
 use Rattle.squash_log.specs.Fates.{fates_of}
 use Rattle.squash_log.specs.Stacks.{unstacked}
-use Rattle.squash_log.proofs.FateRuns.{fates_turn, fates_start}
+use Rattle.squash_log.proofs.FateRuns.{fates_turn}
 use Rattle.squash_log.proofs.fates.find_fates.Goals as goal
 
 pub loop-change-preserved : goal.loop-change-preserved

@@ -1,4 +1,4 @@
-use Rattle.std.proofs.Common.{◌≡◌, ℕ, ◌+◌, ◌-◌, ◌<◌, ◌≤◌, length, refl, sym, ◌∙◌, ap, arith, rules}
+use Rattle.std.proofs.Common.{◌+◌, ◌-◌, length, sym, ◌∙◌, ap, arith}
 use Rattle.extent_map.proofs.CellLists.{length-between}
 use Rattle.squash_log.proofs.FateRuns.{one_piece}
 use Rattle.squash_log.proofs.fates.has_last.Goals as goal

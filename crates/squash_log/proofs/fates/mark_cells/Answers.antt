@@ -1,4 +1,4 @@
-use Rattle.std.proofs.Common.{◌≡◌, ◌-◌, length, refl, sym, ◌∙◌, ap, ap₂, arith, rules}
+use Rattle.std.proofs.Common.{refl, sym, ◌∙◌, arith}
 use Rattle.squash_log.specs.Cells.{lives_from}
 use Rattle.squash_log.proofs.FateRuns.{whole_mark, parts_mark, some_left}
 use Rattle.squash_log.proofs.fates.mark_cells.Goals as goal

@@ -1,4 +1,4 @@
-use Rattle.std.proofs.Common.{◌≡◌, refl, sym, ◌∙◌, ap, subst, ◌++◌, ◌∷◌, []}
+use Rattle.std.proofs.Common.{sym, ap, subst}
 use Rattle.squash_log.specs.Cells.{lives_in}
 use Rattle.squash_log.specs.Fates.{fate_in, own_fate}
 use Rattle.squash_log.specs.Stacks.{AreMarked}

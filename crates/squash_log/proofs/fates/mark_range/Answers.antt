@@ -1,6 +1,6 @@
-use Rattle.std.proofs.Common.{◌≡◌, ℕ, ◌+◌, ◌<◌, Some, None, refl, sym, ◌∙◌, ap, subst, arith, inl, inr}
+use Rattle.std.proofs.Common.{◌+◌, refl, sym, ◌∙◌, arith, inl, inr}
 use Rattle.squash_log.specs.Cells.{lives_in}
-use Rattle.squash_log.proofs.FateRuns.{unknown, unknown_mark, dead_mark, known_fate}
+use Rattle.squash_log.proofs.FateRuns.{unknown, unknown_mark, dead_mark}
 use Rattle.squash_log.proofs.fates.mark_range.Goals as goal
 
 pub returns-then-range-eq0 : goal.returns-then-range-eq0

@@ -1,12 +1,11 @@
 use Rattle.std.specs.Prelude.{MatchOption}
 use Rattle.std.specs.Option.{option_to_list}
-use Rattle.std.proofs.Common.{◌≡◌, ℕ, ◌+◌, ◌-◌, ◌<◌, ◌≤◌, ◌^◌, Bool, true, false, List, [], ◌++◌, Option, None, Some, length, drop, min, refl, sym, ◌∙◌, ap, ap₂, arith, rules, append_assoc}
+use Rattle.std.proofs.Common.{◌≡◌, ℕ, ◌+◌, ◌-◌, ◌<◌, ◌≤◌, ◌^◌, List, ◌++◌, Option, None, Some, length, min, refl, sym, ◌∙◌, ap, ap₂, arith, append_assoc}
 use Rattle.std.proofs.lemmas.List.{append-nil}
 use Rattle.extent_map.proofs.PieceByPiece.{left_after}
 use Rattle.extent_map.specs.Cells.{cells_between}
 use Rattle.squash_log.specs.declared.fate.Span.{Span}
 use Rattle.squash_log.specs.Cells.{lives_from}
-use Rattle.squash_log.specs.Fates.{spans}
 use Rattle.squash_log.specs.Stacks.{grown}
 use Rattle.squash_log.proofs.SpanRuns.{left_spans, spans_from_start}
 use Rattle.squash_log.proofs.FateRuns.{piece_ends, pieces_end, run_left, hole_left, end_left, none_left}

@@ -1,4 +1,4 @@
-use Rattle.std.proofs.Common.{◌≡◌, ℕ, ◌+◌, ◌<◌, ◌≤◌, length, drop, refl, sym, ◌∙◌, ap, subst, arith, rules}
+use Rattle.std.proofs.Common.{◌+◌, ◌≤◌, length, sym, ◌∙◌, arith}
 use Rattle.extent_map.proofs.CellLists.{between_all}
 use Rattle.extent_map.proofs.PieceByPiece.{reaches, left_after, all_had}
 use Rattle.squash_log.proofs.KeptCells.{front_none, front_live, front_dead, front_whole, with_run_is}

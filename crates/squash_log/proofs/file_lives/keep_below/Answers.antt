@@ -1,4 +1,4 @@
-use Rattle.std.proofs.Common.{◌≤◌, length, arith}
+use Rattle.std.proofs.Common.{arith}
 use Rattle.squash_log.proofs.KeptCells.{below_is, below_all}
 use Rattle.squash_log.proofs.file_lives.keep_below.Goals as goal
 

@@ -1,4 +1,4 @@
-use Rattle.std.proofs.Common.{◌<◌, ◌≤◌, ◌-◌, ◌∙◌, ap, length, min, arith}
+use Rattle.std.proofs.Common.{◌-◌, ◌∙◌, ap, min, arith}
 use Rattle.squash_log.proofs.KeptCells.{outside_is, outside_none}
 use Rattle.squash_log.proofs.file_lives.keep_outside.Goals as goal
 

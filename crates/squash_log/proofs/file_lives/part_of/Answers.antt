@@ -1,5 +1,5 @@
-use Rattle.std.proofs.Common.{◌≤◌, ◌-◌, ◌∙◌, ap, length, min, arith, rules}
-use Rattle.squash_log.proofs.KeptCells.{part_is, part_fits, part_none}
+use Rattle.std.proofs.Common.{◌-◌, ◌∙◌, ap, min}
+use Rattle.squash_log.proofs.KeptCells.{part_is, part_fits}
 use Rattle.squash_log.proofs.file_lives.part_of.Goals as goal
 
 pub returns-clause-part : goal.returns-clause-part

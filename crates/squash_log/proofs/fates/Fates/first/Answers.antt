@@ -1,9 +1,8 @@
 use Rattle.std.specs.List.{slice_get}
-use Rattle.std.proofs.Common.{◌≡◌, ℕ, ◌-◌, ◌≤◌, List, Some, length, take, drop, refl, sym, ◌∙◌, ap, subst, arith, rules}
+use Rattle.std.proofs.Common.{◌≡◌, ℕ, ◌-◌, List, Some, length, take, drop, sym, ◌∙◌, ap, subst, arith}
 use Rattle.std.proofs.lemmas.List.{take_all, length-drop}
 use Rattle.squash_log.specs.declared.fate.Span.{Span}
 use Rattle.squash_log.specs.declared.fates.Mark.{Mark}
-use Rattle.squash_log.specs.declared.fates.Mark.TheVariants as mark
 use Rattle.squash_log.specs.Stacks.{count_of}
 use Rattle.squash_log.proofs.StackLaws.{first_whole, first_parts, last_read, within}
 use Rattle.squash_log.proofs.fates.Fates.first.Goals as goal

@@ -1,6 +1,5 @@
-use Rattle.std.proofs.Common.{◌≡◌, ℕ, ◌-◌, ◌≤◌, ◌++◌, ◌∷◌, [], List, length, take, drop, refl, sym, ◌∙◌, ap, ap₂, arith, rules}
+use Rattle.std.proofs.Common.{◌≡◌, ℕ, ◌-◌, List, length, take, drop, sym, ◌∙◌, ap, arith}
 use Rattle.std.proofs.lemmas.List.{take_all}
-use Rattle.squash_log.specs.declared.fate.Span.{Span}
 use Rattle.squash_log.specs.Fates.{Fate}
 use Rattle.squash_log.specs.Stacks.{count_of, all_counts, unstacked}
 use Rattle.squash_log.proofs.StackLaws.{passed, within}

@@ -1,4 +1,4 @@
-use Rattle.std.proofs.Common.{◌≡◌, ℕ, ◌<◌, List, [], ◌∷◌, ◌++◌, length, refl, sym, ◌∙◌, ap, arith, rules}
+use Rattle.std.proofs.Common.{◌≡◌, [], sym, ◌∙◌, ap, arith}
 use Rattle.std.proofs.lemmas.List.{nil_from_length}
 use Rattle.squash_log.specs.Stacks.{logged, AreLogged}
 use Rattle.squash_log.proofs.StackLaws.{logged_more, less_logged, last_fits, opened_logged, opened_some, opened_same}

@@ -1,6 +1,5 @@
-use Rattle.std.proofs.Common.{◌≡◌, ℕ, ◌<◌, ◌≤◌, List, [], ◌∷◌, ◌++◌, length, refl, sym, ◌∙◌, ap, arith, rules}
+use Rattle.std.proofs.Common.{◌≡◌, List, [], ◌∷◌, ◌++◌, ◌∙◌, ap, arith, rules}
 use Rattle.squash_log.specs.declared.change.Change.{Change}
-use Rattle.squash_log.specs.Stacks.{logged}
 use Rattle.squash_log.proofs.StackLaws.{lost_logged, pushed_logged, pushed_same}
 use Rattle.squash_log.proofs.log.Log.push.Goals as goal
 
