@@ -1,5 +1,5 @@
 -- What arguments mean. Of the definitions of `program_model` alone.
-use Rattle.std.specs.Prelude.{ℕ, List, [], ◌∷◌, length, Option, None, Some, if◌then◌else◌}
+use Rattle.std.specs.Prelude.{ℕ, List, [], ◌∷◌, length, ◌==◌, Option, None, Some, if◌then◌else◌}
 use Rattle.std.specs.List.{filter_map}
 use Rattle.std.specs.Option.{option_map, unwrap_or}
 use Rattle.send_model.specs.Guards.{GuardSpec, guard_of}
@@ -51,3 +51,11 @@ turns_among words = unwrap_or (turn_files words) no_turns.files
 -- A number of parts.
 abbrev pub count_in : ℕ → Option ℕ
 count_in count = if is_count count then Some count else None
+
+-- Words that are one file.
+abbrev pub lone_of : Option GivenFiles → Option GivenFiles
+lone_of None = None
+lone_of (Some given) = if length given.files == 1 then Some given else None
+
+abbrev pub one_given : List (List ℕ) → Option GivenFiles
+one_given words = lone_of (some_given words)

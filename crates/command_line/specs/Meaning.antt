@@ -17,6 +17,7 @@ request_meant (made.Dump file) = requests.Dump file.now
 request_meant (made.Text file) = requests.Text file.now
 request_meant (made.Pack file) = requests.Pack file.now
 request_meant (made.Export base files) = requests.Export (base_meant base) files
+request_meant (made.Squash base file) = requests.Squash (base_meant base) file
 request_meant (made.Gen count seed) = requests.Gen count seed
 request_meant (made.Trial count seed) = requests.Trial count seed
 request_meant (made.Init store) = requests.Init store.now

@@ -3,13 +3,13 @@ ghost use Rattle.std.specs.Prelude.{◌≡◌, ◌≤◌, ℕ, List, map, take, 
 ghost use Rattle.std.specs.String.{string_bytes};
 ghost use Rattle.program_model.specs.FileWords.{GivenFiles};
 ghost use Rattle.program_model.specs.Requests as requests;
-ghost use Rattle.program_model.specs.Requests.{a_store, a_snapshot, a_file, a_base_and_files, base_of_word, two_numbers};
+ghost use Rattle.program_model.specs.Requests.{a_store, a_snapshot, a_file, a_base_and_files, a_base_and_file, base_of_word, two_numbers};
 ghost use Rattle.command_line.specs.Meaning.{base_meant};
 ghost use Rattle.command_line.specs.Given.{guards_in};
 ghost use Rattle.command_line.specs.Splits.{guards_split};
 
 use crate::count::Count;
-use crate::file_arguments::FileArguments;
+use crate::file_arguments::{FileArgument, FileArguments};
 use crate::guard_arguments::is_guard_word;
 use crate::request::Base;
 use crate::word::Word;
@@ -76,6 +76,29 @@ pub(crate) fn over_base_in(words: &[String]) -> Option<OverBase<'_>>
     Some(OverBase {
         base: base_of(store.as_str()),
         files,
+    })
+}
+
+/// A base, and one file over it.
+#[derive(Debug, Drop)]
+pub(crate) struct OverBaseOnce<'a> {
+    pub(crate) base: Base<'a>,
+    pub(crate) file: FileArgument<'a>,
+}
+
+/// `STORE FILE`, where STORE may be `none`
+pub(crate) fn over_base_once(words: &[String]) -> Option<OverBaseOnce<'_>>
+    ensures { (request : requests.Base → GivenFiles → requests.Request)
+        → option_map (λ over. request (base_meant over.base) over.file) result
+        ≡ a_base_and_file request (map string_bytes words.now) }
+{
+    let [store, file @ ..] = words else {
+        return None;
+    };
+    let file = FileArgument::of(file)?;
+    Some(OverBaseOnce {
+        base: base_of(store.as_str()),
+        file,
     })
 }
 

@@ -16,7 +16,7 @@ mod turn_arguments;
 mod word;
 
 pub use count::Count;
-pub use file_arguments::FileArguments;
+pub use file_arguments::{FileArgument, FileArguments};
 pub use file_names::FileNames;
 pub use guard_arguments::GuardArguments;
 pub use parsing::parse;

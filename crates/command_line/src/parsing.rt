@@ -1,11 +1,14 @@
 // What the words of a call ask for.
 ghost use Rattle.std.specs.Prelude.{◌≡◌, map, option_map};
 ghost use Rattle.std.specs.String.{string_bytes};
-ghost use Rattle.program_model.specs.Requests.{request_in, a_store, a_snapshot, a_path, a_file, a_base_and_files, a_store_and_files, a_schedule, guarded, two_numbers};
+ghost use Rattle.program_model.specs.Requests.{request_in, a_store, a_snapshot, a_path, a_file, a_base_and_files, a_base_and_file, a_store_and_files, a_schedule, guarded, two_numbers};
 ghost use Rattle.program_model.specs.Requests as requests;
 ghost use Rattle.command_line.specs.Meaning.{request_meant};
 
-use crate::arguments::{OverBase, Snapshot, chain_in, guards_end, only, over_base_in, snapshot_in};
+use crate::arguments::{
+    OverBase, OverBaseOnce, Snapshot, chain_in, guards_end, only, over_base_in, over_base_once,
+    snapshot_in,
+};
 use crate::file_arguments::FileArguments;
 use crate::guard_arguments::GuardArguments;
 use crate::request::Request;
@@ -28,6 +31,7 @@ pub fn parse(words: &[String]) -> Option<Request<'_>>
         "text" => read_text(words),
         "pack" => read_pack(words),
         "export" => read_export(words),
+        "squash" => read_squash(words),
         "gen" => read_gen(words),
         "trial" => read_trial(words),
         "init" => read_init(words),
@@ -110,6 +114,18 @@ fn read_export(words: &[String]) -> Option<Request<'_>>
     };
     let OverBase { base, files } = over;
     Some(Request::Export { base, files })
+}
+
+// `squash STORE FILE`
+fn read_squash(words: &[String]) -> Option<Request<'_>>
+    ensures { option_map request_meant result
+        ≡ a_base_and_file requests.Squash (map string_bytes words.now) }
+{
+    let Some(over) = over_base_once(words) else {
+        return None;
+    };
+    let OverBaseOnce { base, file } = over;
+    Some(Request::Squash { base, file })
 }
 
 // `gen COUNT SEED`

@@ -1,6 +1,6 @@
 // What the words of a call ask for.
 use crate::count::Count;
-use crate::file_arguments::FileArguments;
+use crate::file_arguments::{FileArgument, FileArguments};
 use crate::guard_arguments::GuardArguments;
 use crate::turn_arguments::TurnArguments;
 use crate::word::Word;
@@ -44,6 +44,11 @@ pub enum Request<'a> {
     Export {
         base: Base<'a>,
         files: FileArguments<'a>,
+    },
+    /// A stream is to be written without the bytes that its snapshot does not have at its end.
+    Squash {
+        base: Base<'a>,
+        file: FileArgument<'a>,
     },
     /// A lawful chain of so many parts is to be made from a number.
     Gen {

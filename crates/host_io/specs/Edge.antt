@@ -1,7 +1,7 @@
 -- What the edge decides: how the file of a store is opened, and when standard output may not be
 -- written. This program's own.
 use Rattle.std.specs.Prelude.{Bool, true, false, Option, None, Some, if◌then◌else◌}
-use Rattle.program_model.specs.Requests.{Request, Compose, Audit, Dump, Text, Pack, Export, Gen, Trial, Init, Drop, Receive, ListAll, Show, Cat, Scrub, Send, Restore, Stream, Interleave}
+use Rattle.program_model.specs.Requests.{Request, Compose, Audit, Dump, Text, Pack, Export, Squash, Gen, Trial, Init, Drop, Receive, ListAll, Show, Cat, Scrub, Send, Restore, Stream, Interleave}
 use Rattle.command_line.specs.declared.profile.Access.{Access}
 use Rattle.command_line.specs.declared.profile.Access.TheVariants.{Makes, Changes, Reads}
 use Rattle.host_io.specs.declared.barred_output.BarredOutput.{BarredOutput}
@@ -27,6 +27,7 @@ is_written Reads = false
 abbrev pub writes_stream : Request → Bool
 writes_stream (Compose base files) = true
 writes_stream (Export base files) = true
+writes_stream (Squash base files) = true
 writes_stream (Pack file) = true
 writes_stream (Send store name) = true
 writes_stream (Restore store name) = true

@@ -217,7 +217,7 @@ pub(crate) fn about_input(name: &str, reason: Option<ErrorKind>, again: bool) ->
             "it is a folder: give the files in it, in the order in which they were sent"
         }
         Some(ErrorKind::NotSeekable) if again => {
-            "`compose` reads each file twice: unpack it into a file first"
+            "`compose` and `squash` read each file twice: unpack it into a file first"
         }
         Some(ErrorKind::NotSeekable) => "give a pipe only once",
         _ => "give it again when it can be read",

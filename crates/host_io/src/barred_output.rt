@@ -77,6 +77,7 @@ fn writes_stream(request: &Request<'_>) -> bool
     match request {
         Request::Compose { .. } => true,
         Request::Export { .. } => true,
+        Request::Squash { .. } => true,
         Request::Send { .. } => true,
         Request::Restore { .. } => true,
         Request::Stream { .. } => true,

@@ -8,6 +8,7 @@ keeps snapshots in one crash-safe file, the store. It needs no Btrfs.
 usage: btrsend audit [GUARD..] STORE|none [OVERRIDE..] FILE ..
        btrsend compose STORE|none [OVERRIDE..] FILE .. > MERGED
        btrsend export STORE|none [OVERRIDE..] FILE .. | btrfs receive FOLDER
+       btrsend squash STORE|none [OVERRIDE..] FILE > SMALLER
        btrsend init STORE
        btrsend receive [GUARD..] STORE [OVERRIDE..] FILE ..
        btrsend list STORE
@@ -65,6 +66,8 @@ More:
   scrub     reads all of STORE, compares its checksums, and writes `scrub GROUPS UNSEALED`
   send      writes a snapshot as a full stream for another store
   stream    writes the stream of a snapshot as it was received: incremental if that was
+  squash    writes the one stream of FILE without the data that its snapshot does not have at its
+            end. It makes the same snapshot. Like `compose`, it reads FILE twice
   interleave   receives the streams of up to ten FILEs into STORE in turns. Each digit of SCHEDULE
             is the number of a FILE, from 0, of which one command is received. Then each FILE goes
             on to its end. If one is refused, the others go on. GUARDs come before their FILE
@@ -80,7 +83,8 @@ For testing:
 
   STORE     a file that `btrsend init` made. While a program writes to it, no other can use it
   none      no store: the first stream must be a full one
-  FILE      a file that `btrfs send` wrote, with one stream or several, or a pipe (not of compose)
+  FILE      a file that `btrfs send` wrote, with one stream or several, or a pipe (not of compose
+            or squash)
   OVERRIDE  says something of the FILE after it. There can be both, in any order:
             name:NEW gives its snapshot the name NEW, for tools that name all alike
             parent:UUID:CTRANSID says which snapshot it means by this UUID: see restore

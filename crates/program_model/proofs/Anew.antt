@@ -17,7 +17,7 @@ use Rattle.snapshot_model.specs.StoredLaws.{StoredIsReceived}
 use Rattle.snapshot_model.specs.Promises.{IsReceivedAnew}
 use Rattle.snapshot_model.proofs.Holes.{image_is_one_held}
 use Rattle.snapshot_model.proofs.StoredSent.{sent_of_stores, restored_of_stores}
-use Rattle.program_model.specs.Requests.{Base, Nothing, InStore, Compose, Audit, Dump, Text, Pack, Export, Gen, Trial, Init, Drop, Receive, ListAll, Show, Cat, Scrub, Send, Restore, Stream, Interleave}
+use Rattle.program_model.specs.Requests.{Base, Nothing, InStore, Compose, Audit, Dump, Text, Pack, Export, Squash, Gen, Trial, Init, Drop, Receive, ListAll, Show, Cat, Scrub, Send, Restore, Stream, Interleave}
 use Rattle.program_model.specs.Profiles.{profile}
 use Rattle.program_model.specs.Answers.{Answer, Done, Refused, Usage, InputFault, OutputFault, StoreFault, NoMemory, NoStore, IsMissing, IsFull, IsThere, IsDamaged, IsTooMuch, IsTooLong, InputChanged, Meaning, OfFiles, Says, of_files, of_store, of_base, read_again, packed_from, prints, scrubbed, sent_as, streamed}
 use Rattle.program_model.specs.AnswerMeanings.{SentIsReceivedAnew, RestoredIsReceivedAnew, ReadersKeepTheImage}
@@ -156,6 +156,7 @@ unfolding profile
 readers_keep (Compose base files) image bytes answer written left only = keeps_says image _ (again_keeps image _ (base_keeps image base _)) answer written left
 readers_keep (Audit guards base files) image bytes answer written left only = keeps_says image _ (base_keeps image base _) answer written left
 readers_keep (Export base files) image bytes answer written left only = keeps_says image _ (base_keeps image base _) answer written left
+readers_keep (Squash base files) image bytes answer written left only = keeps_says image _ (base_keeps image base _) answer written left
 readers_keep (Dump file) image bytes answer written left only = keeps_says image _ (files_keep image _) answer written left
 readers_keep (Text file) image bytes answer written left only = keeps_says image _ (files_keep image _) answer written left
 readers_keep (Pack file) image bytes answer written left only = keeps_says image _ (pack_keeps image _) answer written left

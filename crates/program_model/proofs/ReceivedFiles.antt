@@ -1,5 +1,5 @@
 -- A request that puts files into a store names some.
-use Rattle.std.specs.Prelude.{◌≡◌, ◌≢◌, ⊤, ℕ, Bool, true, false, ◌&&◌, List, [], ◌∷◌, length, Option, None, Some, nat_le, if◌then◌else◌}
+use Rattle.std.specs.Prelude.{◌≡◌, ◌≢◌, ⊤, ℕ, Bool, true, false, ◌&&◌, List, [], ◌∷◌, length, ◌==◌, Option, None, Some, nat_le, if◌then◌else◌}
 use Rattle.std.specs.Option.{option_map}
 use Rattle.std.proofs.Common.{refl, subst}
 use Rattle.send_model.specs.Guards.{GuardSpec, guard_of, is_guard_word, number_word}
@@ -9,7 +9,7 @@ use Rattle.store_model.specs.Turns.{schedule_of}
 use Rattle.program_model.specs.EscapedWords.{meant_by}
 use Rattle.program_model.specs.FileWords.{GivenFiles, given_in}
 use Rattle.program_model.specs.TurnWords.{TurnFiles, turn_files, are_turns}
-use Rattle.program_model.specs.Requests.{Base, Request, Arguments, Usage, Compose, Audit, Dump, Text, Pack, Export, Gen, Trial, Init, Drop, Receive, ListAll, Show, Cat, Scrub, Send, Restore, Stream, Interleave, a_store, a_snapshot, a_path, a_file, some_files, base_of_word, a_base_and_files, a_store_and_files, with_one_more, guarded, is_count, of_numbers, two_numbers, scheduled, a_schedule, commands, taken_by, request_in}
+use Rattle.program_model.specs.Requests.{Base, Request, Arguments, Usage, Compose, Audit, Dump, Text, Pack, Export, Squash, Gen, Trial, Init, Drop, Receive, ListAll, Show, Cat, Scrub, Send, Restore, Stream, Interleave, a_store, a_snapshot, a_path, a_file, some_files, base_of_word, a_base_and_files, if_one, a_base_and_file, a_store_and_files, with_one_more, guarded, is_count, of_numbers, two_numbers, scheduled, a_schedule, commands, taken_by, request_in}
 use Rattle.program_model.proofs.GivenWords.{files_stand}
 
 abbrev NamesSome : Request → Type 0
@@ -19,6 +19,7 @@ NamesSome (Dump file) = ⊤
 NamesSome (Text file) = ⊤
 NamesSome (Pack file) = ⊤
 NamesSome (Export base files) = ⊤
+NamesSome (Squash base files) = ⊤
 NamesSome (Gen count seed) = ⊤
 NamesSome (Trial count seed) = ⊤
 NamesSome (Init store) = ⊤
@@ -125,6 +126,19 @@ schedule_gives (store ∷ schedule ∷ words) request e = one (turn_files words)
     one None e = cc
     one (Some turns) e = two turns (are_turns turns) refl e
 
+one_gives : (make : Base → GivenFiles → Request) → ((base : Base) (files : GivenFiles) → NamesSome (make base files)) → Gives (a_base_and_file make)
+one_gives make good [] request e = cc
+one_gives make good (store ∷ []) request e = cc
+one_gives make good (store ∷ word ∷ words) request e = one (given_in (word ∷ words)) e
+  where
+    two : (given : GivenFiles) (is : Bool) → (if is then Some (make (base_of_word store) given) else None) ≡ Some request → NamesSome request
+    two given true e = subst NamesSome (same_inside e) (good (base_of_word store) given)
+    two given false e = cc
+
+    one : (given : Option GivenFiles) → elim given [ None ↦ None | Some given ↦ if_one (make (base_of_word store)) given ] ≡ Some request → NamesSome request
+    one None e = cc
+    one (Some given) e = two given (length given.files == 1) e
+
 -- ---- all commands
 
 abbrev AllGive : List Usage → Type 0
@@ -155,32 +169,35 @@ all_give = (
           (
             base_gives Export (λ base files. tt),
             (
-              numbers_give Gen (λ count seed. tt),
+              one_gives Squash (λ base files. tt),
               (
-                numbers_give Trial (λ count seed. tt),
+                numbers_give Gen (λ count seed. tt),
                 (
-                  store_gives Init (λ store. tt),
+                  numbers_give Trial (λ count seed. tt),
                   (
-                    snapshot_gives Drop (λ store name. tt),
+                    store_gives Init (λ store. tt),
                     (
-                      guarded_give (λ guards. a_store_and_files (Receive guards)) (λ guards. store_files_give (Receive guards) (λ store files some. some)),
+                      snapshot_gives Drop (λ store name. tt),
                       (
-                        store_gives ListAll (λ store. tt),
+                        guarded_give (λ guards. a_store_and_files (Receive guards)) (λ guards. store_files_give (Receive guards) (λ store files some. some)),
                         (
-                          snapshot_gives Show (λ store name. tt),
+                          store_gives ListAll (λ store. tt),
                           (
-                            path_gives Cat (λ store name path. tt),
+                            snapshot_gives Show (λ store name. tt),
                             (
-                              store_gives Scrub (λ store. tt),
+                              path_gives Cat (λ store name path. tt),
                               (
-                                snapshot_gives Send (λ store name. tt),
+                                store_gives Scrub (λ store. tt),
                                 (
-                                  snapshot_gives Restore (λ store name. tt),
+                                  snapshot_gives Send (λ store name. tt),
                                   (
-                                    snapshot_gives Stream (λ store name. tt),
+                                    snapshot_gives Restore (λ store name. tt),
                                     (
-                                      schedule_gives,
-                                      tt,
+                                      snapshot_gives Stream (λ store name. tt),
+                                      (
+                                        schedule_gives,
+                                        tt,
+                                      ),
                                     ),
                                   ),
                                 ),

@@ -7,8 +7,8 @@ use Rattle.send_model.specs.Printed.{is_plain, hex_digit, uuid_text}
 use Rattle.program_model.specs.EscapedWords.{hex_value, unescaped, meant_by}
 use Rattle.store_model.specs.Turns.{schedule_of}
 use Rattle.program_model.specs.TurnWords.{turn_files}
-use Rattle.program_model.specs.Requests.{Nothing, InStore, Compose, Audit, Dump, Text, Pack, Drop, Receive, Cat, Scrub, Send, Restore, Stream, Interleave, guarded, commands, taken_by, request_in}
-use Rattle.program_model.specs.FileWords.{given_parent, given_from, given_in}
+use Rattle.program_model.specs.Requests.{Nothing, InStore, Compose, Audit, Dump, Text, Pack, Drop, Receive, Cat, Scrub, Send, Restore, Stream, Squash, Interleave, guarded, commands, taken_by, request_in}
+use Rattle.program_model.specs.FileWords.{GivenFiles, given_parent, given_from, given_in}
 use Rattle.send_model.specs.Overridden.{no_override}
 use Rattle.send_model.proofs.ExampleWords.{key}
 use Rattle.store_model.specs.StoreLines.{parent_text}
@@ -30,6 +30,17 @@ restored_words = refl
 streamed_words : request_in (codes "stream" ∷ codes "st" ∷ codes "a" ∷ []) ≡ Some (Stream (codes "st") (codes "a"))
 unfolding words_read
 streamed_words = refl
+
+abbrev given_a : GivenFiles
+given_a = record { files = codes "a" ∷ []; overrides = no_override ∷ [] }
+
+-- one file is squashed, over nothing or over a store, and no second one
+squashed_words : (request_in (codes "squash" ∷ codes "none" ∷ codes "a" ∷ []) ≡ Some (Squash Nothing given_a))
+    × (request_in (codes "squash" ∷ codes "st" ∷ codes "a" ∷ []) ≡ Some (Squash (InStore (codes "st")) given_a))
+    × (request_in (codes "squash" ∷ codes "none" ∷ []) ≡ None)
+    × (request_in (codes "squash" ∷ codes "none" ∷ codes "a" ∷ codes "b" ∷ []) ≡ None)
+unfolding words_read
+squashed_words = (refl, refl, refl, refl)
 
 -- a word more means nothing
 one_more : request_in (codes "send" ∷ codes "st" ∷ codes "a" ∷ codes "b" ∷ []) ≡ None

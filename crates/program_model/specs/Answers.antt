@@ -34,9 +34,11 @@ use Rattle.snapshot_model.specs.Sent.{sent_stream}
 use Rattle.snapshot_model.specs.Restored.{restored_stream}
 use Rattle.snapshot_model.specs.HeldStores.{Form, IsSendDue, SendBefore, SendCut}
 use Rattle.stream_model.specs.StreamDues.{IsStreamDue, StreamBefore, StreamCut}
+use Rattle.squash_model.specs.SquashedStreams.{squashed_output}
+use Rattle.squash_model.specs.SquashDues.{own_base, squash_due, IsPartlySquashed}
 use Rattle.program_model.specs.FileWords.{GivenFiles}
 use Rattle.program_model.specs.TurnWords.{TurnFiles}
-use Rattle.program_model.specs.Requests.{Base, Nothing, InStore, Request, Compose, Audit, Dump, Text, Pack, Export, Gen, Trial, Init, Drop, Receive, ListAll, Show, Cat, Scrub, Send, Restore, Stream, Interleave}
+use Rattle.program_model.specs.Requests.{Base, Nothing, InStore, Request, Compose, Audit, Dump, Text, Pack, Export, Squash, Gen, Trial, Init, Drop, Receive, ListAll, Show, Cat, Scrub, Send, Restore, Stream, Interleave}
 
 -- ---- the answers
 
@@ -255,6 +257,17 @@ made bytes = record {
   cut = IsFrontOf bytes;
 }
 
+-- Squashing is over the store without the subvolume of the file. Nothing is written before all of
+-- the file is judged.
+abbrev pub squashed_over : Sources → Store ℕ → OfFiles
+squashed_over read s = let base = own_base s read.limited.items in record {
+  due = squash_due base read.limited;
+  whole = squashed_output base read.limited.items;
+  refused = λ written. written ≡ [];
+  before = IsPartlySquashed base read.limited;
+  cut = IsPartlySquashed base read.limited;
+}
+
 -- Without a store this is what is said. The image is as it was, here and below.
 abbrev pub of_files : (image : List ℕ) → OfFiles → Meaning
 of_files image of = record {
@@ -464,6 +477,8 @@ meaning_of (Audit guards base files) image bytes =
     of_base base image (audited_over guards (read_as files bytes))
 meaning_of (Export base files) image bytes =
     of_base base image (exported_over (read_as files bytes))
+meaning_of (Squash base files) image bytes =
+    of_base base image (squashed_over (read_as files bytes))
 meaning_of (Dump file) image bytes = of_files image (dumped (only bytes))
 meaning_of (Text file) image bytes = of_files image (texted (only bytes))
 meaning_of (Pack file) image bytes = packed_from image (only bytes)

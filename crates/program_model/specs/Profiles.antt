@@ -3,7 +3,7 @@
 use Rattle.std.specs.Prelude.{⊤, ℕ, Bool, true, false, List, [], ◌∷◌, ◌++◌, Option, None, Some}
 use Rattle.send_model.specs.Guards.{GuardSpec}
 use Rattle.program_model.specs.FileWords.{GivenFiles, no_files}
-use Rattle.program_model.specs.Requests.{Base, Nothing, InStore, Request, Compose, Audit, Dump, Text, Pack, Export, Gen, Trial, Init, Drop, Receive, ListAll, Show, Cat, Scrub, Send, Restore, Stream, Interleave}
+use Rattle.program_model.specs.Requests.{Base, Nothing, InStore, Request, Compose, Audit, Dump, Text, Pack, Export, Squash, Gen, Trial, Init, Drop, Receive, ListAll, Show, Cat, Scrub, Send, Restore, Stream, Interleave}
 
 -- How files are read: not at all; once, in their order, so that a pipe serves; twice, and parts of
 -- them again; or once each, in turns.
@@ -82,6 +82,8 @@ profile (Audit guards base files) =
     does guards files Once (store_of base) true (over base (0 ∷ 1 ∷ 3 ∷ 4 ∷ 7 ∷ 11 ∷ []))
 profile (Export base files) =
     does [] files Once (store_of base) true (over base (0 ∷ 1 ∷ 3 ∷ 4 ∷ 7 ∷ 11 ∷ []))
+profile (Squash base files) =
+    does [] files Twice (store_of base) true (over base (0 ∷ 1 ∷ 3 ∷ 4 ∷ 7 ∷ 11 ∷ []))
 profile (Dump file) = does [] (plain_files (file ∷ [])) Once None true (0 ∷ 1 ∷ 3 ∷ 4 ∷ 7 ∷ 11 ∷ [])
 profile (Text file) = does [] (plain_files (file ∷ [])) Once None true (0 ∷ 1 ∷ 3 ∷ 4 ∷ 7 ∷ 11 ∷ [])
 profile (Pack file) = does [] (plain_files (file ∷ [])) Once None true (0 ∷ 1 ∷ 3 ∷ 4 ∷ 7 ∷ 11 ∷ [])

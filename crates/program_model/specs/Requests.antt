@@ -1,5 +1,5 @@
 -- What the words after the program's name ask for. The words are this program's own.
-use Rattle.std.specs.Prelude.{ℕ, List, [], ◌∷◌, length, Option, None, Some, Bool, ◌&&◌, codes, nat_le, if◌then◌else◌}
+use Rattle.std.specs.Prelude.{ℕ, List, [], ◌∷◌, length, Option, None, Some, Bool, ◌&&◌, ◌==◌, codes, nat_le, if◌then◌else◌}
 use Rattle.std.specs.Option.{option_map}
 use Rattle.send_model.specs.Guards.{GuardSpec, guard_of, is_guard_word, number_word}
 use Rattle.send_model.specs.Words.{is_word}
@@ -22,6 +22,7 @@ pub data Request : Type 0 where
   Text : (file : List ℕ) → Request
   Pack : (file : List ℕ) → Request
   Export : (base : Base) (files : GivenFiles) → Request
+  Squash : (base : Base) (files : GivenFiles) → Request
   Gen : (count seed : ℕ) → Request
   Trial : (count seed : ℕ) → Request
   Init : (store : List ℕ) → Request
@@ -85,6 +86,19 @@ base_of_word word = if is_word (codes "none") word then Nothing else InStore wor
 abbrev pub a_base_and_files : (Base → GivenFiles → Request) → Arguments
 a_base_and_files request [] = None
 a_base_and_files request (store ∷ words) = some_files (request (base_of_word store)) words
+
+-- `STORE FILE`, where STORE may be `none`: one file, with what is said in front of it.
+abbrev pub if_one : (GivenFiles → Request) → GivenFiles → Option Request
+if_one request given = if length given.files == 1 then Some (request given) else None
+
+abbrev pub one_file : (GivenFiles → Request) → Arguments
+one_file request [] = None
+one_file request (word ∷ words) =
+    elim (given_in (word ∷ words)) [ None ↦ None | Some given ↦ if_one request given ]
+
+abbrev pub a_base_and_file : (Base → GivenFiles → Request) → Arguments
+a_base_and_file request [] = None
+a_base_and_file request (store ∷ words) = one_file (request (base_of_word store)) words
 
 -- `STORE FILE..`, where STORE is a store's file.
 abbrev pub a_store_and_files : (List ℕ → GivenFiles → Request) → Arguments
@@ -153,6 +167,7 @@ commands =
     ∷ usage (codes "text") (a_file Text)
     ∷ usage (codes "pack") (a_file Pack)
     ∷ usage (codes "export") (a_base_and_files Export)
+    ∷ usage (codes "squash") (a_base_and_file Squash)
     ∷ usage (codes "gen") (two_numbers Gen)
     ∷ usage (codes "trial") (two_numbers Trial)
     ∷ usage (codes "init") (a_store Init)

@@ -138,7 +138,7 @@ turns_some : InTurns ≡ NoFiles → ⊥
 turns_some e = cc
 
 -- A store is there.
-some_store : (store : StoreAccess) → Some store ≡ None → ⊥
+pub some_store : (store : StoreAccess) → Some store ≡ None → ⊥
 some_store store e = cc
 
 -- What every call says that reads a store and does not change it.
@@ -153,7 +153,7 @@ abbrev pub AllSteady : Objects → Type 0
 AllSteady o = (o.disk_faults.after ≡ o.disk_faults.before) × (o.input_faults.after ≡ o.input_faults.before)
     × (o.early_ends.after ≡ o.early_ends.before) × (o.output_faults.after ≡ o.output_faults.before)
 
-all_steady : (o : Objects) → AllSteady o → HasCause o (of_outcome ended.Done)
+pub all_steady : (o : Objects) → AllSteady o → HasCause o (of_outcome ended.Done)
 all_steady o s = (s.1, (s.2, (s.3, s.0)))
 
 -- ---- chains over a store

@@ -1,6 +1,6 @@
 -- Where there was no memory before anything was done: what is said of each request.
 use Rattle.std.specs.Prelude.{◌≡◌, ℕ, true, List, [], ◌∷◌, codes}
-use Rattle.std.proofs.Common.{refl, ⊎_elim}
+use Rattle.std.proofs.Common.{refl, ⊎_elim, inl}
 use Rattle.send_model.specs.Guards.{GuardSpec}
 use Rattle.send_model.specs.Reading.{Verdict}
 use Rattle.send_model.specs.Words as streams
@@ -14,7 +14,7 @@ use Rattle.snapshot_model.specs.Sent.{sent_stream}
 use Rattle.snapshot_model.specs.Restored.{restored_stream}
 use Rattle.program_model.specs.FileWords.{GivenFiles}
 use Rattle.program_model.specs.TurnWords.{TurnFiles}
-use Rattle.program_model.specs.Requests.{Base, Nothing, InStore, Compose, Audit, Export, Drop, Receive, Show, Cat, Send, Restore, Stream, Interleave}
+use Rattle.program_model.specs.Requests.{Base, Nothing, InStore, Compose, Audit, Export, Squash, Drop, Receive, Show, Cat, Send, Restore, Stream, Interleave}
 use Rattle.program_model.specs.Profiles.{profile}
 use Rattle.program_model.specs.Answers.{Done, Refused, NoMemory, Says, meaning_of, as_said}
 use Rattle.request_answers.specs.Objects.{Objects}
@@ -58,7 +58,17 @@ module _ (image : List ℕ) (files : GivenFiles) (bytes : List (List ℕ)) where
   export_says Nothing = (refl, (saying.exported_same (read_of said)).before [] (alone (streams.Export 0 0) (λ store e. cc) none_words image said).1)
   export_says (InStore store) = (saying.export_covers image said).memory [] image (alone (streams.Export 0 0) (λ other e. cc) saying.a_store image said)
 
+  squash_says : (base : Base) → Says (meaning_of (Squash base files) image bytes) NoMemory [] image
+  unfolding Says
+  squash_says Nothing = (refl, inl refl)
+  squash_says (InStore store) = (refl, (λ s stands. inl refl, λ group none. refl))
+
 module _ where
+  squash_row : (base : Base) (files : GivenFiles) → is_one_of 7 (profile (Squash base files)).statuses ≡ true
+  unfolding profile is_one_of
+  squash_row Nothing files = refl
+  squash_row (InStore store) files = refl
+
   compose_row : (base : Base) (files : GivenFiles) → is_one_of 7 (profile (Compose base files)).statuses ≡ true
   unfolding profile is_one_of
   compose_row Nothing files = refl
@@ -84,6 +94,10 @@ module _ (o : Objects) (s : Still o) where
 
   pub export_nothing : (base : Base) (files : GivenFiles) → Answers o (Export base files) NoMemory
   export_nothing base files = nothing_done o s (Export base files) (export_row base files) (λ bytes. bytes_any (profile (Export base files)).store bytes _ (export_says o.contents files bytes base))
+      (λ done. absurd (not_done done))
+
+  pub squash_nothing : (base : Base) (files : GivenFiles) → Answers o (Squash base files) NoMemory
+  squash_nothing base files = nothing_done o s (Squash base files) (squash_row base files) (λ bytes. bytes_any (profile (Squash base files)).store bytes _ (squash_says o.contents files bytes base))
       (λ done. absurd (not_done done))
 
   stands_before : (request : stored.Request) → ((store : ℕ) → request ≡ stored.InitStore store → ⊥) → (words : List (List ℕ)) (files : NamedFiles) → StandsBefore request words o.contents files [] o.contents

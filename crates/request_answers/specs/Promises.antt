@@ -13,9 +13,11 @@ use Rattle.snapshot_model.specs.HeldStores.{Form}
 use Rattle.snapshot_model.specs.Sent.{sent_stream}
 use Rattle.snapshot_model.specs.Restored.{restored_stream}
 use Rattle.snapshot_model.specs.Promises.{IsReceivedAnew, IsUnfinished}
+use Rattle.squash_model.specs.SquashedStreams.{IsSquashedOf}
+use Rattle.squash_model.specs.SquashDues.{own_base}
 use Rattle.stream_model.specs.StreamDues.{IsStreamedBack, IsUnfinishedStream}
 use Rattle.program_model.specs.FileWords.{GivenFiles}
-use Rattle.program_model.specs.Requests.{Base, Nothing, InStore, Request, Compose, Audit, Dump, Text, Pack, Export, Gen, Trial, Init, Drop, Receive, ListAll, Show, Cat, Scrub, Send, Restore, Stream, Interleave}
+use Rattle.program_model.specs.Requests.{Base, Nothing, InStore, Request, Compose, Audit, Dump, Text, Pack, Export, Squash, Gen, Trial, Init, Drop, Receive, ListAll, Show, Cat, Scrub, Send, Restore, Stream, Interleave}
 use Rattle.program_model.specs.Profiles.{profile, How, NoFiles, Once, Twice, InTurns, Makes, Changes, Reads, StoreAccess, OnlyReads}
 use Rattle.program_model.specs.Answers.{Answer, Done, Refused, Usage, InputFault, OutputFault, StoreFault, NoMemory, NoStore, IsMissing, IsFull, IsThere, IsDamaged, IsTooMuch, IsTooLong, InputChanged, status_of, Says, meaning_of}
 use Rattle.sx_base.specs.Asks.{Ask, AreReadOnce, AreReadTwice}
@@ -137,6 +139,13 @@ pub record IsMergedAs (objects : Objects) (base : Base) (files : GivenFiles)
       (λ s bytes written. let reading : Reading = reading_of files bytes in written
       ≡ whole_output_of (base_of s reading.items) reading)
 
+-- `squash` wrote one stream that leads to the same, without the bytes that the snapshot does not have
+-- at its end.
+abbrev pub IsSquashedAs : Objects → Base → GivenFiles → Answer → Type 0
+IsSquashedAs objects base files answer = answer ≡ Done → OverBase objects base files
+    (λ s bytes written. let reading : Reading = reading_of files bytes in IsSquashedOf
+    (own_base s reading.items) reading written)
+
 -- `export` wrote streams that every receiver of the files takes.
 abbrev pub IsExportedAs : Objects → Base → GivenFiles → Answer → Type 0
 IsExportedAs objects base files answer = answer ≡ Done → OverBase objects base files
@@ -161,6 +170,7 @@ pub record IsStreamedAs (objects : Objects) (name : List ℕ) (answer : Answer) 
 abbrev pub Promised : Objects → Request → Answer → Type 0
 Promised objects (Compose base files) answer = IsMergedAs objects base files answer
 Promised objects (Export base files) answer = IsExportedAs objects base files answer
+Promised objects (Squash base files) answer = IsSquashedAs objects base files answer
 Promised objects (Send store name) answer = IsSentAs objects sent_stream name answer
 Promised objects (Restore store name) answer = IsSentAs objects restored_stream name answer
 Promised objects (Stream store name) answer = IsStreamedAs objects name answer

@@ -12,7 +12,9 @@ use crate::entries::{
     StoredPath, cat_answer, list_answer, restore_answer, scrub_answer, send_answer, show_answer,
     stream_answer,
 };
-use crate::merging::{Chain, audit_answer, compose_answer, export_answer};
+use crate::merging::{
+    Chain, OneStream, audit_answer, compose_answer, export_answer, squash_answer,
+};
 use crate::putting::{Putting, drop_answer, init_answer, interleave_answer, receive_answer};
 use crate::streams::{dump_answer, gen_answer, pack_answer, text_answer, trial_answer};
 use command_line::Request;
@@ -53,6 +55,9 @@ pub fn answer<I: Inputs, O: Sink, D: Disk>(
         Request::Pack { file } => pack_answer(alloc, file, inputs, out, disk),
         Request::Export { base, files } => {
             export_answer(&Chain { alloc, base, files }, inputs, out, disk)
+        }
+        Request::Squash { base, file } => {
+            squash_answer(&OneStream { alloc, base, file }, inputs, out, disk)
         }
         Request::Gen { count, seed } => gen_answer(alloc, (count, seed), inputs, out, disk),
         Request::Trial { count, seed } => trial_answer(alloc, (count, seed), inputs, out, disk),

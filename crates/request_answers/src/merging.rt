@@ -10,14 +10,15 @@ ghost use Rattle.request_answers.specs.Promises.{Answers};
 use crate::endings::{Answer, end_answer, ended, no_memory};
 use auditor::audit;
 use clone_resolve::EditCore;
-use command_line::{Base, FileArguments, GuardArguments};
+use command_line::{Base, FileArgument, FileArguments, GuardArguments};
 use composer::compose;
 use extent_map::Nowhere;
 use guard_rules::Guard;
-use part_names::NamedFiles;
+use part_names::{NamedFile, NamedFiles};
+use squasher::squash;
 use std::alloc::Global;
 use store_commands::{audit_store, export_store};
-use store_compose::compose_store;
+use store_compose::{compose_store, squash_store};
 use stream_export::export;
 use sx_base::{Disk, Inputs, Sink};
 
@@ -118,5 +119,48 @@ pub(crate) fn export_answer<I: Inputs, O: Sink, D: Disk>(
             ended(export(&named, core, Nowhere, inputs, out))
         }
         Base::InStore { .. } => end_answer(chain.alloc, export_store(&named, disk, inputs, out)),
+    }
+}
+
+/// One file over a base, and where memory comes from.
+#[derive(Debug, Drop)]
+pub(crate) struct OneStream<'a> {
+    /// Where memory comes from.
+    pub(crate) alloc: Global,
+    /// What the stream builds on.
+    pub(crate) base: Base<'a>,
+    /// The file.
+    pub(crate) file: FileArgument<'a>,
+}
+
+/// What squashing a stream answers.
+pub(crate) fn squash_answer<I: Inputs, O: Sink, D: Disk>(
+    stream: &OneStream<'_>,
+    inputs: &mut I,
+    out: &mut O,
+    disk: &mut D,
+) -> Answer
+    ensures { Answers (objects_of I.Inputs inputs.old inputs.new O.Sink out.old out.new
+        D.Disk disk.old disk.new)
+        (requests.Squash (base_meant stream.now.base) stream.now.file) (answer_of result) }
+{
+    let Ok(given) = stream.file.given(stream.alloc) else {
+        return no_memory();
+    };
+    let [name] = given.files() else {
+        unreachable!()
+    };
+    let file = NamedFile {
+        alloc: stream.alloc,
+        number: 1,
+        name: name.as_str(),
+        said: given.overrides().of_file(1),
+    };
+    match stream.base {
+        Base::Nothing => {
+            let core = EditCore::new(stream.alloc);
+            ended(squash(&file, core, Nowhere, inputs, out))
+        }
+        Base::InStore { .. } => { end_answer(stream.alloc, squash_store(&file, disk, inputs, out)) }
     }
 }

@@ -3,7 +3,7 @@ use Rattle.std.specs.Prelude.{◌≡◌, ◌⊎◌, ℕ, true}
 use Rattle.std.specs.Io.KnownBytes.{Appends}
 use Rattle.std.proofs.Common.{sym, ap, subst, ◌∙◌, ⊎_elim}
 use Rattle.send_model.proofs.Sorts.{same_inside}
-use Rattle.program_model.specs.Requests.{Request, Compose, Export, Send, Restore, Stream}
+use Rattle.program_model.specs.Requests.{Request, Compose, Export, Squash, Send, Restore, Stream}
 use Rattle.program_model.specs.Profiles.{profile}
 use Rattle.program_model.specs.Answers.{Answer, Done, Usage, status_of, note_of}
 use Rattle.sx_base.specs.Outside.{AppendsPart}
@@ -112,6 +112,7 @@ module _ (run : Run) (answer : Answer) (b : Before run answer) where
   is_merged = record {
     whole = λ e base files asks. (promise (Compose base files) asks).whole (zero e);
     front = λ e base files asks. let found = refused-of_one answer (sym b.status ∙ e) in (promise (Compose base files) asks).front found.0 found.1;
+    squashed = λ e base files asks. promise (Squash base files) asks (zero e);
   }
 
   pub is_exported : IsExported run

@@ -13,9 +13,11 @@ use Rattle.send_model.specs.ExportPromises.{IsExportedOf}
 use Rattle.snapshot_model.specs.Sent.{sent_stream}
 use Rattle.snapshot_model.specs.Restored.{restored_stream}
 use Rattle.snapshot_model.specs.Promises.{IsReceivedAnew, IsUnfinished}
+use Rattle.squash_model.specs.SquashedStreams.{IsSquashedOf}
+use Rattle.squash_model.specs.SquashDues.{own_base}
 use Rattle.stream_model.specs.StreamDues.{IsStreamedBack, IsUnfinishedStream}
 use Rattle.program_model.specs.FileWords.{GivenFiles}
-use Rattle.program_model.specs.Requests.{Base, Request, Compose, Export, Send, Restore, Stream, request_in}
+use Rattle.program_model.specs.Requests.{Base, Request, Compose, Export, Squash, Send, Restore, Stream, request_in}
 use Rattle.program_model.specs.Profiles.{profile, NoFiles, OnlyReads}
 use Rattle.program_model.specs.Answers.{Answer, status_of, note_of, Says, meaning_of}
 use Rattle.sx_base.specs.Calls.{Wrote}
@@ -152,6 +154,13 @@ pub record IsMerged (run : Run) : Type 0 where
       → OverBase run.objects base files
       (λ s bytes written. let reading : Reading = reading_of files bytes in written
       ≡ whole_output_of (base_of s reading.items) reading)
+  -- with status 0 `squash` wrote one stream that leads to the same, of which the literal bytes are
+  -- those that the snapshot has at its end
+  pub squashed : run.status ≡ 0 → (base : Base) (files : GivenFiles)
+      → Asks run (Squash base files)
+      → OverBase run.objects base files
+      (λ s bytes written. let reading : Reading = reading_of files bytes in IsSquashedOf
+      (own_base s reading.items) reading written)
 
 -- ---- 6. what is exported
 

@@ -5,3 +5,4 @@ pub mod FileAnswers
 pub mod OverStanding
 pub mod StoreAnswers
 pub mod OverEnds
+pub mod SquashAnswers

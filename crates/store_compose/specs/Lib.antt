@@ -2,3 +2,4 @@ pub mod Standing
 pub mod Reading
 pub mod ReadRuns
 pub mod Ending
+pub mod Squashing

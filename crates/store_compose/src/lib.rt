@@ -1,4 +1,4 @@
-//! Composing consecutive streams into one over the store that a disk holds.
+//! Composing consecutive streams into one, and squashing a stream, over the store that a disk holds.
 #![tactic(auto)]
 
 mod anchor;
@@ -6,6 +6,8 @@ mod composing;
 mod ending;
 mod fetch;
 mod held;
+mod squashing;
 mod standing;
 
 pub use composing::compose_store;
+pub use squashing::squash_store;

@@ -1,0 +1,14 @@
+pub mod Walks
+pub mod Keeping
+pub mod Sizing
+pub mod Stepping
+pub mod Blanks
+pub mod FoundOut
+pub mod JudgedFile
+pub mod Bodies
+pub mod Going
+pub mod Named
+pub mod OwnBase
+pub mod WrittenFile
+pub mod WrittenStream
+pub mod SquashedFile
