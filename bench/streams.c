@@ -186,6 +186,23 @@ static void chain(const char *folder, long parts, long files, long changes) {
     }
 }
 
+// Each day writes the one file of so many MiB anew.
+static void days(const char *folder, long days, long mebibytes) {
+    static uint8_t bytes[MEBIBYTE];
+    for (long day = 0; day < days; day++) {
+        FILE *to = open_part(folder, day);
+        head(to, day);
+        if (!day) make_file(to, "image");
+        for (long place = 0; place < mebibytes; place++) {
+            fill(bytes, MEBIBYTE, day * mebibytes + place);
+            for (size_t at = 0; at < MEBIBYTE; at += PIECE)
+                write_data(to, "image", (uint64_t)place * MEBIBYTE + at, bytes + at, MEBIBYTE - at < PIECE ? MEBIBYTE - at : PIECE);
+        }
+        end(to);
+        if (fclose(to)) stop("close");
+    }
+}
+
 static int is_file(const struct dirent *entry) { return entry->d_type == DT_REG; }
 
 // Files of a folder, each made and then written piece by piece.
@@ -263,6 +280,8 @@ int main(int count, char **words) {
         full(atol(words[2]));
     else if (count == 6 && !strcmp(words[1], "chain"))
         chain(words[2], atol(words[3]), atol(words[4]), atol(words[5]));
+    else if (count == 5 && !strcmp(words[1], "days"))
+        days(words[2], atol(words[3]), atol(words[4]));
     else if (count == 4 && !strcmp(words[1], "folder"))
         folder(words[2], words[3]);
     else if (count == 3 && !strcmp(words[1], "copy"))

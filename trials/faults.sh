@@ -349,14 +349,15 @@ run pack text-shorter; refused 'pack of a text that is cut' 1 "refused 1 5 $(wc 
 head -c 113 small | cmp -s - out; case_is 'pack writes what it can' "$([ $? = 0 ] || echo 'it wrote something else')"
 run export none second; refused 'export without the first stream' 1 'refused 1 1 17 13 NoParent'
 run export none first damaged; refused 'export of a damaged file' 1 "$(sed 's/^refused 1/refused 2/' damaged-note)"
-for words in 'audit none small' 'dump small' 'text small' 'pack small-text' 'export none small' 'gen 3 1' 'trial 3 1'; do
+for words in 'audit none small' 'dump small' 'text small' 'pack small-text' 'export none small' 'squash none small' 'gen 3 1' \
+    'trial 3 1'; do
     : >out
     timeout 20 "$program" $words >/dev/full 2>note; status=$?
     refused "a full device, $words" 4 'output fault'
     timeout 20 "$program" $words 2>note >&-; status=$?
     refused "a closed output, $words" 4 'output fault'
 done
-for words in 'audit none' 'dump' 'text' 'pack' 'export none'; do
+for words in 'audit none' 'dump' 'text' 'pack' 'export none' 'squash none'; do
     run $words missing; refused "a missing file, $words" 3 'input fault'
 done
 run gen 4096 1; case_is 'the longest chain' "$([ "$status" = 0 ] && [ ! -s note ] || echo "status $status")"
@@ -394,6 +395,10 @@ kill "$first" "$second" 2>/dev/null; wait
 cat small second | { timeout 20 "$program" compose none /dev/stdin >out 2>note; echo $? >status; }
 status=$(cat status)
 refused 'standard input, a pipe' 3 'input fault'
+: >out
+cat small | { timeout 20 "$program" squash none /dev/stdin >out 2>note; echo $? >status; }
+status=$(cat status)
+refused 'squash of standard input, a pipe' 3 'input fault'
 : >out
 cat second | { timeout 20 "$program" compose none small /dev/stdin >/dev/full 2>note; echo $? >status; }
 status=$(cat status)
@@ -650,6 +655,15 @@ for word in send restore; do
     refused "$word of it ends with its reader" 4 'output fault'
 done
 
+run squash none doubled; case_is 'a file of 2^50 runs is squashed' "$([ "$status" = 0 ] && cmp -s doubled out || echo "status $status")"
+: >out
+run squash none small; mv out squashed; run squash none squashed
+case_is 'squashing again changes nothing' "$([ "$status" = 0 ] && cmp -s squashed out || echo "status $status")"
+: >out
+cat small second >two-parts
+run squash none two-parts; refused 'a second part is not squashed' 1 "refused 1 $(("$("$program" dump small | wc -l)" + 1)) \
+$(($(wc -c <small) + 17)) 35 NotConsecutive"
+
 # ---- closed standard descriptors
 
 # Runs the program with some of the descriptors 0, 1 and 2 closed: bit N of the first argument closes descriptor N.
@@ -693,7 +707,7 @@ for words in 'init closed-wanted' 'init closed-new' 'drop closed-wanted a' 'drop
 done
 for words in 'receive closed-wanted second' 'interleave closed-wanted 0 second' 'list closed-wanted' 'show closed-wanted a' \
     'cat closed-wanted a 1' 'scrub closed-wanted' 'send closed-wanted a' 'restore closed-wanted a' 'audit closed-wanted second' \
-    'compose closed-wanted second' 'export closed-wanted second' 'dump small' 'text small' 'pack closed-text' 'gen 2 1' 'trial 2 1' '--help'; do
+    'compose closed-wanted second' 'export closed-wanted second' 'squash closed-wanted second' 'stream closed-wanted a' 'dump small' 'text small' 'pack closed-text' 'gen 2 1' 'trial 2 1' '--help'; do
     closed_ways writes $words
 done
 
@@ -713,7 +727,7 @@ btrsend: standard output is the store itself: write to another file or into a pi
 : >out
 for words in 'init itself' 'receive itself second' 'interleave itself 0 second' 'list itself' 'show itself a' 'cat itself a 1' \
     'drop itself a' 'scrub itself' 'send itself a' 'restore itself a' 'audit itself second' 'compose itself second' \
-    'export itself second'; do
+    'export itself second' 'squash itself second' 'stream itself a'; do
     to_the_store $words
 done
 cp closed-store itself
