@@ -86,7 +86,7 @@ for name in once linked; do
     kill "$feeder" 2>/dev/null; wait "$feeder" 2>/dev/null
 done
 printf '%s\n' 'input fault' \
-    'btrsend: /dev/stdin: it can be read only once; `compose` reads each file twice: unpack it into a file first' >wanted
+    'btrsend: /dev/stdin: it can be read only once; `compose` and `squash` read each file twice: unpack it into a file first' >wanted
 cat small second | { BTRSEND_EXPLAIN=1 timeout 20 "$program" compose none /dev/stdin >out 2>note; echo $? >status; }
 status=$(cat status); explained 'a pipe of compose' 3 note
 # Whom no right is needed from may read all, so another user tries.

@@ -655,14 +655,15 @@ for word in send restore; do
     refused "$word of it ends with its reader" 4 'output fault'
 done
 
-run squash none doubled; case_is 'a file of 2^50 runs is squashed' "$([ "$status" = 0 ] && cmp -s doubled out || echo "status $status")"
+run compose none doubled; mv out doubled-composed; run squash none doubled
+case_is 'a file of 2^50 runs is squashed' "$([ "$status" = 0 ] && cmp -s doubled-composed out || echo "status $status")"
 : >out
 run squash none small; mv out squashed; run squash none squashed
 case_is 'squashing again changes nothing' "$([ "$status" = 0 ] && cmp -s squashed out || echo "status $status")"
 : >out
 cat small second >two-parts
-run squash none two-parts; refused 'a second part is not squashed' 1 "refused 1 $(("$("$program" dump small | wc -l)" + 1)) \
-$(($(wc -c <small) + 17)) 35 NotConsecutive"
+commands=$("$program" dump small | wc -l)
+run squash none two-parts; refused 'a second part is not squashed' 1 "refused 1 $commands $(($(wc -c <small) + 17)) 35 NotConsecutive"
 
 # ---- closed standard descriptors
 
