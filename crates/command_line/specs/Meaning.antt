@@ -30,5 +30,6 @@ request_meant (made.Scrub store) = requests.Scrub store.now
 request_meant (made.Send store name) = requests.Send store.now name
 request_meant (made.Restore store name) = requests.Restore store.now name
 request_meant (made.Stream store name) = requests.Stream store.now name
+request_meant (made.Tar store name) = requests.Tar store.now name
 request_meant (made.Interleave store turns) =
     requests.Interleave store.now turns.schedule turns.files

@@ -44,6 +44,7 @@ pub fn parse(words: &[String]) -> Option<Request<'_>>
         "send" => read_send(words),
         "restore" => read_restore(words),
         "stream" => read_stream(words),
+        "tar" => read_tar(words),
         "interleave" => read_interleave(words),
         _ => None,
     }
@@ -275,6 +276,18 @@ fn read_stream(words: &[String]) -> Option<Request<'_>>
     };
     let Snapshot { store, name } = snapshot;
     Some(Request::Stream { store, name })
+}
+
+// `tar STORE NAME`
+fn read_tar(words: &[String]) -> Option<Request<'_>>
+    ensures { option_map request_meant result
+        ≡ a_snapshot requests.Tar (map string_bytes words.now) }
+{
+    let Some(snapshot) = snapshot_in(words) else {
+        return None;
+    };
+    let Snapshot { store, name } = snapshot;
+    Some(Request::Tar { store, name })
 }
 
 // `interleave STORE SCHEDULE [GUARD..] FILE ..`

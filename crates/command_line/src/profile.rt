@@ -69,6 +69,7 @@ impl<'a> Request<'a> {
             Request::Send { .. } => GuardArguments::none(),
             Request::Restore { .. } => GuardArguments::none(),
             Request::Stream { .. } => GuardArguments::none(),
+            Request::Tar { .. } => GuardArguments::none(),
             Request::Interleave { turns, .. } => turns.guards(),
         }
     }
@@ -98,6 +99,7 @@ impl<'a> Request<'a> {
             Request::Send { .. } => FileNames::none(),
             Request::Restore { .. } => FileNames::none(),
             Request::Stream { .. } => FileNames::none(),
+            Request::Tar { .. } => FileNames::none(),
             Request::Interleave { turns, .. } => turns.names(),
         }
     }
@@ -135,6 +137,7 @@ impl<'a> Request<'a> {
             Request::Send { .. } => How::NoFiles,
             Request::Restore { .. } => How::NoFiles,
             Request::Stream { .. } => How::NoFiles,
+            Request::Tar { .. } => How::NoFiles,
             Request::Interleave { .. } => How::InTurns,
         }
     }
@@ -164,6 +167,7 @@ impl<'a> Request<'a> {
             Request::Send { store, .. } => opened(store, Access::Reads),
             Request::Restore { store, .. } => opened(store, Access::Reads),
             Request::Stream { store, .. } => opened(store, Access::Reads),
+            Request::Tar { store, .. } => opened(store, Access::Reads),
             Request::Interleave { store, .. } => opened(store, Access::Changes),
         }
     }
@@ -193,6 +197,7 @@ impl<'a> Request<'a> {
             Request::Send { .. } => true,
             Request::Restore { .. } => true,
             Request::Stream { .. } => true,
+            Request::Tar { .. } => true,
             Request::Interleave { .. } => true,
         }
     }

@@ -109,6 +109,11 @@ pub enum Request<'a> {
         store: &'a str,
         name: Word<'a>,
     },
+    /// A snapshot is to be written as a tar archive.
+    Tar {
+        store: &'a str,
+        name: Word<'a>,
+    },
     /// The streams of some files are to be received into a store in turns.
     Interleave {
         store: &'a str,

@@ -1,7 +1,7 @@
 -- What the edge decides: how the file of a store is opened, and when standard output may not be
 -- written. This program's own.
 use Rattle.std.specs.Prelude.{Bool, true, false, Option, None, Some, if◌then◌else◌}
-use Rattle.program_model.specs.Requests.{Request, Compose, Audit, Dump, Text, Pack, Export, Squash, Gen, Trial, Init, Drop, Receive, ListAll, Show, Cat, Scrub, Send, Restore, Stream, Interleave}
+use Rattle.program_model.specs.Requests.{Request, Compose, Audit, Dump, Text, Pack, Export, Squash, Gen, Trial, Init, Drop, Receive, ListAll, Show, Cat, Scrub, Send, Restore, Stream, Tar, Interleave}
 use Rattle.command_line.specs.declared.profile.Access.{Access}
 use Rattle.command_line.specs.declared.profile.Access.TheVariants.{Makes, Changes, Reads}
 use Rattle.host_io.specs.declared.barred_output.BarredOutput.{BarredOutput}
@@ -32,6 +32,7 @@ writes_stream (Pack file) = true
 writes_stream (Send store name) = true
 writes_stream (Restore store name) = true
 writes_stream (Stream store name) = true
+writes_stream (Tar store name) = true
 writes_stream (Audit guards base files) = false
 writes_stream (Dump file) = false
 writes_stream (Text file) = false

@@ -81,6 +81,7 @@ fn writes_stream(request: &Request<'_>) -> bool
         Request::Send { .. } => true,
         Request::Restore { .. } => true,
         Request::Stream { .. } => true,
+        Request::Tar { .. } => true,
         Request::Audit { .. } => false,
         Request::Dump { .. } => false,
         Request::Text { .. } => false,

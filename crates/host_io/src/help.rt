@@ -19,6 +19,7 @@ usage: btrsend audit [GUARD..] STORE|none [OVERRIDE..] FILE ..
        btrsend scrub STORE
        btrsend send STORE NAME > STREAM
        btrsend stream STORE NAME > STREAM
+       btrsend tar STORE NAME | tar -x
        btrsend interleave STORE SCHEDULE [GUARD..] FILE ..
        btrsend dump FILE
        btrsend text FILE > TEXT
@@ -66,6 +67,7 @@ More:
   scrub     reads all of STORE, compares its checksums, and writes `scrub GROUPS UNSEALED`
   send      writes a snapshot as a full stream for another store
   stream    writes the stream of a snapshot as it was received: incremental if that was
+  tar       writes a snapshot as a tar archive, with extended attributes, links and holes
   squash    writes the one stream of FILE without the data that its snapshot does not have at its
             end. It makes the same snapshot. Like `compose`, it reads FILE twice
   interleave   receives the streams of up to ten FILEs into STORE in turns. Each digit of SCHEDULE

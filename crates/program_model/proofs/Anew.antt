@@ -15,9 +15,10 @@ use Rattle.snapshot_model.specs.HeldStores.{Form, IsSendDue}
 use Rattle.snapshot_model.specs.SentLaws.{FileIsReceivedAs}
 use Rattle.snapshot_model.specs.StoredLaws.{StoredIsReceived}
 use Rattle.snapshot_model.specs.Promises.{IsReceivedAnew}
+use Rattle.archive_model.specs.Archive.{archived_form}
 use Rattle.snapshot_model.proofs.Holes.{image_is_one_held}
 use Rattle.snapshot_model.proofs.StoredSent.{sent_of_stores, restored_of_stores}
-use Rattle.program_model.specs.Requests.{Base, Nothing, InStore, Compose, Audit, Dump, Text, Pack, Export, Squash, Gen, Trial, Init, Drop, Receive, ListAll, Show, Cat, Scrub, Send, Restore, Stream, Interleave}
+use Rattle.program_model.specs.Requests.{Base, Nothing, InStore, Compose, Audit, Dump, Text, Pack, Export, Squash, Gen, Trial, Init, Drop, Receive, ListAll, Show, Cat, Scrub, Send, Restore, Stream, Tar, Interleave}
 use Rattle.program_model.specs.Profiles.{profile}
 use Rattle.program_model.specs.Answers.{Answer, Done, Refused, Usage, InputFault, OutputFault, StoreFault, NoMemory, NoStore, IsMissing, IsFull, IsThere, IsDamaged, IsTooMuch, IsTooLong, InputChanged, Meaning, OfFiles, Says, of_files, of_store, of_base, read_again, packed_from, prints, scrubbed, sent_as, streamed}
 use Rattle.program_model.specs.AnswerMeanings.{SentIsReceivedAnew, RestoredIsReceivedAnew, ReadersKeepTheImage}
@@ -172,4 +173,5 @@ readers_keep (Scrub store) image bytes answer written left only = keeps_says ima
 readers_keep (Send store name) image bytes answer written left only = keeps_says image _ (sent_keeps image sent_stream name) answer written left
 readers_keep (Restore store name) image bytes answer written left only = keeps_says image _ (sent_keeps image restored_stream name) answer written left
 readers_keep (Stream store name) image bytes answer written left only = keeps_says image _ (streamed_keeps image name) answer written left
+readers_keep (Tar store name) image bytes answer written left only = keeps_says image _ (sent_keeps image archived_form name) answer written left
 readers_keep (Interleave store schedule turns) image bytes answer written left only = absurd only

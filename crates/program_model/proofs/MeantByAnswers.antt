@@ -9,7 +9,7 @@ use Rattle.snapshot_model.specs.Restored.{restored_stream}
 use Rattle.snapshot_model.proofs.MeantBySending.{send_is_done}
 use Rattle.stream_model.proofs.TakenAgain.{due_is_taken}
 use Rattle.program_model.specs.Answers.{Says, turns_of}
-use Rattle.program_model.specs.AnswerMeanings.{ShowIsOfNamed, CatIsOfNamed, DropIsOfNamed, MissingIsNamed, SendIsOfNamed, RestoreIsOfNamed, StreamIsOfNamed, NoStreamIsNamed, NoFilesAreSent, TurnsAreDone}
+use Rattle.program_model.specs.AnswerMeanings.{ShowIsOfNamed, CatIsOfNamed, DropIsOfNamed, MissingIsNamed, SendIsOfNamed, RestoreIsOfNamed, StreamIsOfNamed, NoStreamIsNamed, TarIsOfNamed, NoTarIsNamed, NoFilesAreSent, TurnsAreDone}
 
 -- No files.
 abbrev no_named : NamedFiles
@@ -57,9 +57,17 @@ pub no_stream_is_named : NoStreamIsNamed
 unfolding Says
 no_stream_is_named file name image bytes what written left h = (h.1.0, h.1.1)
 
+pub tar_is_of_named : TarIsOfNamed
+unfolding Says
+tar_is_of_named file name image bytes written left h = (h.1.1, h.0)
+
+pub no_tar_is_named : NoTarIsNamed
+unfolding Says
+no_tar_is_named file name image bytes what written left h = (h.1.0, h.1.1)
+
 pub no_files_are_sent : NoFilesAreSent
 unfolding Says
-no_files_are_sent file name image bytes written left = (λ h. h, λ h. h, λ h. h)
+no_files_are_sent file name image bytes written left = (λ h. h, λ h. h, λ h. h, λ h. h)
 
 pub turns_are_done_so : TurnsAreDone
 unfolding Says

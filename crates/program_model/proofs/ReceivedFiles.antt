@@ -9,7 +9,7 @@ use Rattle.store_model.specs.Turns.{schedule_of}
 use Rattle.program_model.specs.EscapedWords.{meant_by}
 use Rattle.program_model.specs.FileWords.{GivenFiles, given_in}
 use Rattle.program_model.specs.TurnWords.{TurnFiles, turn_files, are_turns}
-use Rattle.program_model.specs.Requests.{Base, Request, Arguments, Usage, Compose, Audit, Dump, Text, Pack, Export, Squash, Gen, Trial, Init, Drop, Receive, ListAll, Show, Cat, Scrub, Send, Restore, Stream, Interleave, a_store, a_snapshot, a_path, a_file, some_files, base_of_word, a_base_and_files, if_one, a_base_and_file, a_store_and_files, with_one_more, guarded, is_count, of_numbers, two_numbers, scheduled, a_schedule, commands, taken_by, request_in}
+use Rattle.program_model.specs.Requests.{Base, Request, Arguments, Usage, Compose, Audit, Dump, Text, Pack, Export, Squash, Gen, Trial, Init, Drop, Receive, ListAll, Show, Cat, Scrub, Send, Restore, Stream, Tar, Interleave, a_store, a_snapshot, a_path, a_file, some_files, base_of_word, a_base_and_files, if_one, a_base_and_file, a_store_and_files, with_one_more, guarded, is_count, of_numbers, two_numbers, scheduled, a_schedule, commands, taken_by, request_in}
 use Rattle.program_model.proofs.GivenWords.{files_stand}
 
 abbrev NamesSome : Request → Type 0
@@ -32,6 +32,7 @@ NamesSome (Scrub store) = ⊤
 NamesSome (Send store name) = ⊤
 NamesSome (Restore store name) = ⊤
 NamesSome (Stream store name) = ⊤
+NamesSome (Tar store name) = ⊤
 NamesSome (Interleave store schedule turns) = turns.files ≢ []
 
 abbrev Gives : Arguments → Type 0
@@ -194,10 +195,7 @@ all_give = (
                                     snapshot_gives Restore (λ store name. tt),
                                     (
                                       snapshot_gives Stream (λ store name. tt),
-                                      (
-                                        schedule_gives,
-                                        tt,
-                                      ),
+                                      (snapshot_gives Tar (λ store name. tt), (schedule_gives, tt)),
                                     ),
                                   ),
                                 ),

@@ -7,7 +7,7 @@ use Rattle.send_model.specs.Printed.{is_plain, hex_digit, uuid_text}
 use Rattle.program_model.specs.EscapedWords.{hex_value, unescaped, meant_by}
 use Rattle.store_model.specs.Turns.{schedule_of}
 use Rattle.program_model.specs.TurnWords.{turn_files}
-use Rattle.program_model.specs.Requests.{Nothing, InStore, Compose, Audit, Dump, Text, Pack, Drop, Receive, Cat, Scrub, Send, Restore, Stream, Squash, Interleave, guarded, commands, taken_by, request_in}
+use Rattle.program_model.specs.Requests.{Nothing, InStore, Compose, Audit, Dump, Text, Pack, Drop, Receive, Cat, Scrub, Send, Restore, Stream, Tar, Squash, Interleave, guarded, commands, taken_by, request_in}
 use Rattle.program_model.specs.FileWords.{GivenFiles, given_parent, given_from, given_in}
 use Rattle.send_model.specs.Overridden.{no_override}
 use Rattle.send_model.proofs.ExampleWords.{key}
@@ -41,6 +41,11 @@ squashed_words : (request_in (codes "squash" ∷ codes "none" ∷ codes "a" ∷ 
     × (request_in (codes "squash" ∷ codes "none" ∷ codes "a" ∷ codes "b" ∷ []) ≡ None)
 unfolding words_read
 squashed_words = (refl, refl, refl, refl)
+
+-- an archive
+archived_words : request_in (codes "tar" ∷ codes "st" ∷ codes "a" ∷ []) ≡ Some (Tar (codes "st") (codes "a"))
+unfolding words_read
+archived_words = refl
 
 -- a word more means nothing
 one_more : request_in (codes "send" ∷ codes "st" ∷ codes "a" ∷ codes "b" ∷ []) ≡ None

@@ -16,9 +16,10 @@ use Rattle.snapshot_model.specs.Sent.{sent_stream}
 use Rattle.snapshot_model.specs.Restored.{restored_stream}
 use Rattle.snapshot_model.specs.HeldStores.{StandsHeld, Form}
 use Rattle.snapshot_model.specs.Promises.{IsReceivedAnew}
+use Rattle.archive_model.specs.Archive.{archive}
 use Rattle.stream_model.specs.StreamDues.{IsStreamOf, IsStreamedBack}
 use Rattle.program_model.specs.TurnWords.{TurnFiles}
-use Rattle.program_model.specs.Requests.{Request, Text, Pack, Drop, Show, Cat, Send, Restore, Stream, Interleave}
+use Rattle.program_model.specs.Requests.{Request, Text, Pack, Drop, Show, Cat, Send, Restore, Stream, Tar, Interleave}
 use Rattle.program_model.specs.Profiles.{profile, OnlyReads}
 use Rattle.program_model.specs.Answers.{Answer, Done, Refused, IsMissing, InputFault, Says, meaning_of, turns_of}
 
@@ -113,6 +114,27 @@ NoStreamIsNamed =
     → Says (meaning_of (Stream file name) image bytes) (IsMissing what) written left
     → (what ≡ name) × (written ≡ [])
 
+-- The complete snapshot of that name, as the image has it, is written as an archive.
+abbrev pub IsArchivedOf : (image name written : List ℕ) → Type 0
+IsArchivedOf image name written =
+    (store : Store (Option ℕ)) × StandsHeld image store
+    × ((found : Entry (Subvolume (Option ℕ)) × Subvolume (Option ℕ))
+    × (complete_named name store ≡ Some found) × (written ≡ archive found.1))
+
+-- With status 0 `tar` wrote the archive of the complete snapshot of that name; what is missing is
+-- this name.
+abbrev pub TarIsOfNamed : Type 0
+TarIsOfNamed =
+    (file name : List ℕ) (image : List ℕ) (bytes : List (List ℕ)) (written left : List ℕ)
+    → Says (meaning_of (Tar file name) image bytes) Done written left
+    → IsArchivedOf image name written × (left ≡ image)
+
+abbrev pub NoTarIsNamed : Type 0
+NoTarIsNamed =
+    (file name : List ℕ) (image : List ℕ) (bytes : List (List ℕ)) (what written left : List ℕ)
+    → Says (meaning_of (Tar file name) image bytes) (IsMissing what) written left
+    → (what ≡ name) × (written ≡ [])
+
 -- They read no files.
 abbrev pub NoFilesAreSent : Type 0
 NoFilesAreSent =
@@ -120,6 +142,7 @@ NoFilesAreSent =
     → (Says (meaning_of (Send file name) image bytes) InputFault written left → ⊥)
     × (Says (meaning_of (Restore file name) image bytes) InputFault written left → ⊥)
     × (Says (meaning_of (Stream file name) image bytes) InputFault written left → ⊥)
+    × (Says (meaning_of (Tar file name) image bytes) InputFault written left → ⊥)
 
 -- ---- texts of streams
 

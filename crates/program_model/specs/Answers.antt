@@ -33,12 +33,13 @@ use Rattle.store_model.specs.TurnAnswers.{TurnsDue, TurnsBefore, TurnsInput, Tur
 use Rattle.snapshot_model.specs.Sent.{sent_stream}
 use Rattle.snapshot_model.specs.Restored.{restored_stream}
 use Rattle.snapshot_model.specs.HeldStores.{Form, IsSendDue, SendBefore, SendCut}
+use Rattle.archive_model.specs.Archive.{archived_form}
 use Rattle.stream_model.specs.StreamDues.{IsStreamDue, StreamBefore, StreamCut}
 use Rattle.squash_model.specs.SquashedStreams.{squashed_output}
 use Rattle.squash_model.specs.SquashDues.{own_base, squash_due, IsPartlySquashed}
 use Rattle.program_model.specs.FileWords.{GivenFiles}
 use Rattle.program_model.specs.TurnWords.{TurnFiles}
-use Rattle.program_model.specs.Requests.{Base, Nothing, InStore, Request, Compose, Audit, Dump, Text, Pack, Export, Squash, Gen, Trial, Init, Drop, Receive, ListAll, Show, Cat, Scrub, Send, Restore, Stream, Interleave}
+use Rattle.program_model.specs.Requests.{Base, Nothing, InStore, Request, Compose, Audit, Dump, Text, Pack, Export, Squash, Gen, Trial, Init, Drop, Receive, ListAll, Show, Cat, Scrub, Send, Restore, Stream, Tar, Interleave}
 
 -- ---- the answers
 
@@ -498,3 +499,4 @@ meaning_of (Scrub store) image bytes = scrubbed image
 meaning_of (Send store name) image bytes = sent_as sent_stream image name
 meaning_of (Restore store name) image bytes = sent_as restored_stream image name
 meaning_of (Stream store name) image bytes = streamed image name
+meaning_of (Tar store name) image bytes = sent_as archived_form image name

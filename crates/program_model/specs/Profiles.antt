@@ -3,7 +3,7 @@
 use Rattle.std.specs.Prelude.{⊤, ℕ, Bool, true, false, List, [], ◌∷◌, ◌++◌, Option, None, Some}
 use Rattle.send_model.specs.Guards.{GuardSpec}
 use Rattle.program_model.specs.FileWords.{GivenFiles, no_files}
-use Rattle.program_model.specs.Requests.{Base, Nothing, InStore, Request, Compose, Audit, Dump, Text, Pack, Export, Squash, Gen, Trial, Init, Drop, Receive, ListAll, Show, Cat, Scrub, Send, Restore, Stream, Interleave}
+use Rattle.program_model.specs.Requests.{Base, Nothing, InStore, Request, Compose, Audit, Dump, Text, Pack, Export, Squash, Gen, Trial, Init, Drop, Receive, ListAll, Show, Cat, Scrub, Send, Restore, Stream, Tar, Interleave}
 
 -- How files are read: not at all; once, in their order, so that a pipe serves; twice, and parts of
 -- them again; or once each, in turns.
@@ -106,4 +106,6 @@ profile (Send store name) = does [] no_files NoFiles (reads store) true (0 ∷ 4
 profile (Restore store name) =
     does [] no_files NoFiles (reads store) true (0 ∷ 4 ∷ 5 ∷ 6 ∷ 7 ∷ 8 ∷ [])
 profile (Stream store name) =
+    does [] no_files NoFiles (reads store) true (0 ∷ 4 ∷ 5 ∷ 6 ∷ 7 ∷ 8 ∷ [])
+profile (Tar store name) =
     does [] no_files NoFiles (reads store) true (0 ∷ 4 ∷ 5 ∷ 6 ∷ 7 ∷ 8 ∷ [])

@@ -35,6 +35,7 @@ pub data Request : Type 0 where
   Send : (store name : List ℕ) → Request
   Restore : (store name : List ℕ) → Request
   Stream : (store name : List ℕ) → Request
+  Tar : (store name : List ℕ) → Request
   Interleave : (store : List ℕ) (schedule : List ℕ) (turns : TurnFiles) → Request
 
 -- ---- arguments
@@ -180,6 +181,7 @@ commands =
     ∷ usage (codes "send") (a_snapshot Send)
     ∷ usage (codes "restore") (a_snapshot Restore)
     ∷ usage (codes "stream") (a_snapshot Stream)
+    ∷ usage (codes "tar") (a_snapshot Tar)
     ∷ usage (codes "interleave") (a_schedule Interleave)
     ∷ []
 

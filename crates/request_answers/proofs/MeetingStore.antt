@@ -1,7 +1,7 @@
 -- What the calls over a store answer.
 use Rattle.std.specs.Prelude.{◌≡◌, ◌≢◌, ⊤, ℕ, true, ◌<◌, suc, drop, List, [], ◌∷◌, length, None, Some}
 use Rattle.std.specs.List.{AllByRecursion}
-use Rattle.std.proofs.Common.{refl, ap, inl, inr, arith}
+use Rattle.std.proofs.Common.{subst, refl, ap, inl, inr, arith}
 use Rattle.send_model.specs.Attribute.{IsBytes}
 use Rattle.send_model.specs.Guards.{Guard, GuardSpec}
 use Rattle.store_model.specs.TurnDues.{shared}
@@ -30,7 +30,7 @@ use Rattle.store_commands.specs.declared.ends.StoreEnd.{StoreEnd}
 use Rattle.store_commands.specs.declared.ends.StoreEnd.TheVariants as made
 use Rattle.store_compose.specs.Ending.{ComposeCaused, ChangeFound, beside}
 use Rattle.program_model.specs.FileWords.{GivenFiles}
-use Rattle.program_model.specs.Requests.{InStore, Compose, Audit, Export, Init, Drop, Receive, ListAll, Show, Cat, Scrub, Send, Restore, Stream, Interleave}
+use Rattle.program_model.specs.Requests.{InStore, Compose, Audit, Export, Init, Drop, Receive, ListAll, Show, Cat, Scrub, Send, Restore, Stream, Tar, Interleave}
 use Rattle.program_model.specs.Profiles.{profile, How, NoFiles, Once, Twice, InTurns, StoreAccess}
 use Rattle.program_model.specs.Answers.{Done, Refused, status_of, Says, meaning_of, as_said}
 use Rattle.request_answers.specs.Objects.{Objects, HasRisen}
@@ -45,6 +45,7 @@ use Rattle.snapshot_model.specs.HeldStores.{SendAnswers}
 use Rattle.snapshot_model.specs.Sent.{sent_stream}
 use Rattle.snapshot_model.specs.Restored.{restored_stream}
 use Rattle.snapshot_model.specs.Promises.{IsReceivedAnew, IsUnfinished}
+use Rattle.archive_model.specs.Archive.{archived_form}
 use Rattle.stream_model.specs.StreamDues.{StreamAnswers, IsStreamedBack, IsUnfinishedStream}
 use Rattle.store_model.specs.TurnAnswers.{TurnsAnswer}
 use Rattle.store_commands.specs.Dropping.{LeftByDrop}
@@ -455,6 +456,35 @@ stream_meets o store name end p caused answered received unfinished = record {
   details = why.details_end o (Stream store name) show_ways _ _ ⊥ _ name [] end caused;
   promised = record {
     whole = λ done faithful. let w = received faithful in (w.0, w.1, w.2 (end_done name [] end done));
+    in_part = λ other faithful. let w = unfinished faithful in (w.0, w.1, w.2 (λ is. other (ap (of_end name []) is)));
+  };
+  any_moment = p.reading.moment;
+  durable = λ done faithful e. cc;
+  acknowledged = λ faithful e. tt;
+}
+
+pub tar_meets : (o : Objects) (store name : List ℕ) (end : StoreEnd) → Printing o → PrintCaused o show_ways end
+    → (o.IsFaithful → Wrote o.output o.output_after (λ written. SendAnswers archived_form o.contents name (ending.answer_of name [] end) written o.contents_after))
+    → (o.IsFaithful → Wrote o.output o.output_after (λ written. end ≢ made.Ends ended.Done → IsUnfinished archived_form o.contents name written))
+    → Answers o (Tar store name) (of_end name [] end)
+unfolding profile
+tar_meets o store name end p caused answered unfinished = record {
+  known = p.reading.known;
+  reads = p.reading.asked;
+  unread = λ e. p.inputs;
+  unprinted = λ e. cc;
+  unused = λ e. absurd (some_store _ e);
+  unharmed = λ faithful reads. p.reading.contents faithful;
+  allowed = why.allowed_end show_ways _ _ ⊥ _ _ (why.show_row (HasRisen o.output_faults)) name [] end caused;
+  caused = print_cause o show_ways name [] p end caused;
+  says = λ faithful. let w = answered faithful in (w.0, w.1, saying.sent_says archived_form o.contents name w.0 o.contents_after (ending.answer_of name [] end) w.2);
+  details = why.details_end o (Tar store name) show_ways _ _ ⊥ _ name [] end caused;
+  promised = record {
+    whole = λ done faithful. let w = answered faithful in (
+      w.0,
+      w.1,
+      (subst (λ (e : StoreEnd). SendAnswers archived_form o.contents name (ending.answer_of name [] e) w.0 o.contents_after) (end_done name [] end done) w.2).1.1,
+    );
     in_part = λ other faithful. let w = unfinished faithful in (w.0, w.1, w.2 (λ is. other (ap (of_end name []) is)));
   };
   any_moment = p.reading.moment;

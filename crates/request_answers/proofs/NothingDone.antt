@@ -12,15 +12,16 @@ use Rattle.store_model.specs.Answers.{StandsBefore}
 use Rattle.store_model.proofs.AnswerLaws.{nothing_stands_before}
 use Rattle.snapshot_model.specs.Sent.{sent_stream}
 use Rattle.snapshot_model.specs.Restored.{restored_stream}
+use Rattle.archive_model.specs.Archive.{archived_form}
 use Rattle.program_model.specs.FileWords.{GivenFiles}
 use Rattle.program_model.specs.TurnWords.{TurnFiles}
-use Rattle.program_model.specs.Requests.{Base, Nothing, InStore, Compose, Audit, Export, Squash, Drop, Receive, Show, Cat, Send, Restore, Stream, Interleave}
+use Rattle.program_model.specs.Requests.{Base, Nothing, InStore, Compose, Audit, Export, Squash, Drop, Receive, Show, Cat, Send, Restore, Stream, Tar, Interleave}
 use Rattle.program_model.specs.Profiles.{profile}
 use Rattle.program_model.specs.Answers.{Done, Refused, NoMemory, Says, meaning_of, as_said}
 use Rattle.request_answers.specs.Objects.{Objects}
 use Rattle.request_answers.specs.Promises.{Answers, is_one_of}
 use Rattle.request_answers.proofs.Saying as saying
-use Rattle.request_answers.proofs.Saying.{Covers, SameFiles, nothing_said, nothing_sent, sent_unfinished, restored_unfinished, nothing_streamed, streamed_unfinished}
+use Rattle.request_answers.proofs.Saying.{Covers, SameFiles, nothing_said, nothing_sent, sent_unfinished, restored_unfinished, nothing_streamed, streamed_unfinished, archived_unfinished}
 use Rattle.turn_sessions.proofs.Answering.{unmoved}
 use Rattle.request_answers.proofs.Still.{Still, bytes_any, nothing_done}
 
@@ -132,6 +133,11 @@ module _ (o : Objects) (s : Still o) where
   unfolding profile is_one_of Says
   stream_nothing store name = nothing_done o s (Stream store name) refl (λ bytes. (refl, nothing_streamed o.contents name))
       (record { whole = λ done. absurd (not_done done); in_part = λ other faithful. ([], s.nothing, streamed_unfinished o.contents name) })
+
+  pub tar_nothing : (store name : List ℕ) → Answers o (Tar store name) NoMemory
+  unfolding profile is_one_of Says
+  tar_nothing store name = nothing_done o s (Tar store name) refl (λ bytes. (refl, nothing_sent archived_form o.contents name))
+      (record { whole = λ done. absurd (not_done done); in_part = λ other faithful. ([], s.nothing, archived_unfinished o.contents name) })
 
   pub receive_nothing : (guards : List GuardSpec) (store : List ℕ) (files : GivenFiles) → Answers o (Receive guards store files) NoMemory
   unfolding profile is_one_of Says

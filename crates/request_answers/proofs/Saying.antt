@@ -31,6 +31,10 @@ use Rattle.snapshot_model.specs.Sent.{sent_stream, sent_version}
 use Rattle.snapshot_model.specs.Restored.{restored_stream}
 use Rattle.store_model.specs.TurnDues.{InTurns}
 use Rattle.store_model.specs.TurnAnswers.{TurnsAnswer}
+use Rattle.std.specs.List.{flat_map}
+use Rattle.std.proofs.lemmas.List.{length-replicate}
+use Rattle.archive_model.specs.Ustar.{zeros}
+use Rattle.archive_model.specs.Archive.{member_bytes, archived, archive, archived_form}
 use Rattle.stream_model.specs.OwnStream.{Edits, own_stream}
 use Rattle.stream_model.specs.StreamDues.{StreamAnswers, StreamBefore, IsUnfinishedStream}
 use Rattle.program_model.specs.Answers.{sent_as, streamed, received_in_turns}
@@ -395,6 +399,19 @@ sent_unfinished image name = unfinished sent_stream image name sent_some
 
 pub restored_unfinished : (image name : List ℕ) → IsUnfinished restored_stream image name []
 restored_unfinished image name = unfinished restored_stream image name restored_some
+
+-- An archive ends with two blocks.
+behind_some : (xs ys : List ℕ) → 0 < length ys → 0 < length (xs ++ ys)
+behind_some [] ys some = some
+behind_some (x ∷ xs) ys some = omega arith
+
+archived_some : (found : Found) → 0 < length (formed archived_form (Some found))
+unfolding archive
+archived_some found =
+    behind_some (flat_map member_bytes (archived found.1)) (zeros 1_024) (omega (arith, length-replicate {A = ℕ} 1_024 0))
+
+pub archived_unfinished : (image name : List ℕ) → IsUnfinished archived_form image name []
+archived_unfinished image name = unfinished archived_form image name archived_some
 
 -- Nothing of the stream that was received is written, and it is not empty.
 pub nothing_streamed : (image name : List ℕ) → StreamBefore image name []

@@ -15,9 +15,11 @@ use Rattle.snapshot_model.specs.Restored.{restored_stream}
 use Rattle.snapshot_model.specs.Promises.{IsReceivedAnew, IsUnfinished}
 use Rattle.squash_model.specs.SquashedStreams.{IsSquashedOf}
 use Rattle.squash_model.specs.SquashDues.{own_base}
+use Rattle.archive_model.specs.Archive.{archived_form}
+use Rattle.program_model.specs.AnswerMeanings.{IsArchivedOf}
 use Rattle.stream_model.specs.StreamDues.{IsStreamedBack, IsUnfinishedStream}
 use Rattle.program_model.specs.FileWords.{GivenFiles}
-use Rattle.program_model.specs.Requests.{Base, Nothing, InStore, Request, Compose, Audit, Dump, Text, Pack, Export, Squash, Gen, Trial, Init, Drop, Receive, ListAll, Show, Cat, Scrub, Send, Restore, Stream, Interleave}
+use Rattle.program_model.specs.Requests.{Base, Nothing, InStore, Request, Compose, Audit, Dump, Text, Pack, Export, Squash, Gen, Trial, Init, Drop, Receive, ListAll, Show, Cat, Scrub, Send, Restore, Stream, Tar, Interleave}
 use Rattle.program_model.specs.Profiles.{profile, How, NoFiles, Once, Twice, InTurns, Makes, Changes, Reads, StoreAccess, OnlyReads}
 use Rattle.program_model.specs.Answers.{Answer, Done, Refused, Usage, InputFault, OutputFault, StoreFault, NoMemory, NoStore, IsMissing, IsFull, IsThere, IsDamaged, IsTooMuch, IsTooLong, InputChanged, status_of, Says, meaning_of}
 use Rattle.sx_base.specs.Asks.{Ask, AreReadOnce, AreReadTwice}
@@ -167,6 +169,13 @@ pub record IsStreamedAs (objects : Objects) (name : List ℕ) (answer : Answer) 
   pub in_part : answer ≢ Done → objects.IsFaithful → Wrote objects.output objects.output_after
       (λ written. IsUnfinishedStream objects.contents name written)
 
+-- `tar` wrote the archive of the snapshot, byte for byte; or some of it is missing.
+pub record IsArchivedAs (objects : Objects) (name : List ℕ) (answer : Answer) : Type 0 where
+  pub whole : answer ≡ Done → objects.IsFaithful → Wrote objects.output objects.output_after
+      (λ written. IsArchivedOf objects.contents name written)
+  pub in_part : answer ≢ Done → objects.IsFaithful → Wrote objects.output objects.output_after
+      (λ written. IsUnfinished archived_form objects.contents name written)
+
 abbrev pub Promised : Objects → Request → Answer → Type 0
 Promised objects (Compose base files) answer = IsMergedAs objects base files answer
 Promised objects (Export base files) answer = IsExportedAs objects base files answer
@@ -174,6 +183,7 @@ Promised objects (Squash base files) answer = IsSquashedAs objects base files an
 Promised objects (Send store name) answer = IsSentAs objects sent_stream name answer
 Promised objects (Restore store name) answer = IsSentAs objects restored_stream name answer
 Promised objects (Stream store name) answer = IsStreamedAs objects name answer
+Promised objects (Tar store name) answer = IsArchivedAs objects name answer
 Promised objects (Audit guards base files) answer = ⊤
 Promised objects (Dump file) answer = ⊤
 Promised objects (Text file) answer = ⊤

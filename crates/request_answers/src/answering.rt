@@ -10,7 +10,7 @@ ghost use Rattle.request_answers.specs.Promises.{Answers};
 use crate::endings::Answer;
 use crate::entries::{
     StoredPath, cat_answer, list_answer, restore_answer, scrub_answer, send_answer, show_answer,
-    stream_answer,
+    stream_answer, tar_answer,
 };
 use crate::merging::{
     Chain, OneStream, audit_answer, compose_answer, export_answer, squash_answer,
@@ -80,6 +80,7 @@ pub fn answer<I: Inputs, O: Sink, D: Disk>(
         Request::Send { name, .. } => send_answer(alloc, &name, inputs, out, disk),
         Request::Restore { name, .. } => restore_answer(alloc, &name, inputs, out, disk),
         Request::Stream { name, .. } => stream_answer(alloc, &name, inputs, out, disk),
+        Request::Tar { name, .. } => tar_answer(alloc, &name, inputs, out, disk),
         Request::Interleave { turns, .. } => interleave_answer(alloc, &turns, inputs, out, disk),
     }
 }

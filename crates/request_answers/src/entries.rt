@@ -6,6 +6,7 @@ ghost use Rattle.request_answers.specs.Objects.{objects_of};
 ghost use Rattle.request_answers.specs.Promises.{Answers};
 
 use crate::endings::{Answer, end_answer, named_answer, no_memory};
+use archive_writer::archive_entry;
 use command_line::Word;
 use full_send::{restore_entry, send_entry};
 use std::alloc::Global;
@@ -152,5 +153,25 @@ pub(crate) fn stream_answer<I: Inputs, O: Sink, D: Disk>(
         return no_memory();
     };
     let end = stream_entry(alloc, disk, name.as_slice(), out);
+    named_answer(end, name, Blob::new(alloc))
+}
+
+/// What writing a snapshot as a tar archive answers.
+pub(crate) fn tar_answer<I: Inputs, O: Sink, D: Disk>(
+    alloc: Global,
+    name: &Word<'_>,
+    inputs: &mut I,
+    out: &mut O,
+    disk: &mut D,
+) -> Answer
+    ensures { (store : List ℕ) → Answers (objects_of I.Inputs inputs.old inputs.new
+        O.Sink out.old out.new D.Disk disk.old disk.new)
+        (requests.Tar store name.now) (answer_of result) }
+{
+    let _ = inputs;
+    let Ok(name) = name.bytes(alloc) else {
+        return no_memory();
+    };
+    let end = archive_entry(alloc, disk, name.as_slice(), out);
     named_answer(end, name, Blob::new(alloc))
 }

@@ -3,7 +3,7 @@ use Rattle.std.specs.Prelude.{◌≡◌, ◌⊎◌, ℕ, true}
 use Rattle.std.specs.Io.KnownBytes.{Appends}
 use Rattle.std.proofs.Common.{sym, ap, subst, ◌∙◌, ⊎_elim}
 use Rattle.send_model.proofs.Sorts.{same_inside}
-use Rattle.program_model.specs.Requests.{Request, Compose, Export, Squash, Send, Restore, Stream}
+use Rattle.program_model.specs.Requests.{Request, Compose, Export, Squash, Send, Restore, Stream, Tar}
 use Rattle.program_model.specs.Profiles.{profile}
 use Rattle.program_model.specs.Answers.{Answer, Done, Usage, status_of, note_of}
 use Rattle.sx_base.specs.Outside.{AppendsPart}
@@ -126,6 +126,8 @@ module _ (run : Run) (answer : Answer) (b : Before run answer) where
     restored_in_part = λ other faithful store name asks. (promise (Restore store name) asks).in_part (not_zero other) faithful;
     streamed = λ e faithful store name asks. (promise (Stream store name) asks).whole (zero e) faithful;
     streamed_in_part = λ other faithful store name asks. (promise (Stream store name) asks).in_part (not_zero other) faithful;
+    archived = λ e faithful store name asks. (promise (Tar store name) asks).whole (zero e) faithful;
+    archived_in_part = λ other faithful store name asks. (promise (Tar store name) asks).in_part (not_zero other) faithful;
   }
 
   pub is_crash_safe : IsCrashSafe run

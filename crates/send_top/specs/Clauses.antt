@@ -15,9 +15,11 @@ use Rattle.snapshot_model.specs.Restored.{restored_stream}
 use Rattle.snapshot_model.specs.Promises.{IsReceivedAnew, IsUnfinished}
 use Rattle.squash_model.specs.SquashedStreams.{IsSquashedOf}
 use Rattle.squash_model.specs.SquashDues.{own_base}
+use Rattle.archive_model.specs.Archive.{archived_form}
+use Rattle.program_model.specs.AnswerMeanings.{IsArchivedOf}
 use Rattle.stream_model.specs.StreamDues.{IsStreamedBack, IsUnfinishedStream}
 use Rattle.program_model.specs.FileWords.{GivenFiles}
-use Rattle.program_model.specs.Requests.{Base, Request, Compose, Export, Squash, Send, Restore, Stream, request_in}
+use Rattle.program_model.specs.Requests.{Base, Request, Compose, Export, Squash, Send, Restore, Stream, Tar, request_in}
 use Rattle.program_model.specs.Profiles.{profile, NoFiles, OnlyReads}
 use Rattle.program_model.specs.Answers.{Answer, status_of, note_of, Says, meaning_of}
 use Rattle.sx_base.specs.Calls.{Wrote}
@@ -172,7 +174,7 @@ pub record IsExported (run : Run) : Type 0 where
       (λ s bytes written. AllByRecursion IsBytes bytes → IsExportedOf s
       (reading_of files bytes) written)
 
--- ---- 7. what is sent, restored and streamed
+-- ---- 7. what is sent, restored, streamed and archived
 
 pub record IsSent (run : Run) : Type 0 where
   -- with status 0 the stream makes the snapshot anew, in every store without its name and UUID
@@ -199,6 +201,15 @@ pub record IsSent (run : Run) : Type 0 where
       → Asks run (Stream store name)
       → Wrote run.objects.output run.objects.output_after
       (λ written. IsUnfinishedStream run.objects.contents name written)
+  -- with status 0 `tar` wrote the archive of the snapshot, byte for byte
+  pub archived : run.status ≡ 0 → run.objects.IsFaithful → (store name : List ℕ)
+      → Asks run (Tar store name)
+      → Wrote run.objects.output run.objects.output_after
+      (λ written. IsArchivedOf run.objects.contents name written)
+  pub archived_in_part : (run.status ≡ 0 → ⊥) → run.objects.IsFaithful → (store name : List ℕ)
+      → Asks run (Tar store name)
+      → Wrote run.objects.output run.objects.output_after
+      (λ written. IsUnfinished archived_form run.objects.contents name written)
 
 -- ---- 8. crashes
 

@@ -39,5 +39,8 @@ returns-in-Restore g c = rw c.in-Restore.is (c.restore_answer.ensures c.in-Resto
 pub returns-in-Stream : goal.returns-in-Stream
 returns-in-Stream g c = rw c.in-Stream.is (c.stream_answer.ensures c.in-Stream.store.now)
 
+pub returns-in-Tar : goal.returns-in-Tar
+returns-in-Tar g c = rw c.in-Tar.is (c.tar_answer.ensures c.in-Tar.store.now)
+
 pub returns-in-Interleave : goal.returns-in-Interleave
 returns-in-Interleave g c = rw c.in-Interleave.is (c.interleave_answer.ensures c.in-Interleave.store.now)
