@@ -1,6 +1,7 @@
 #!/bin/sh
-# Time and peak memory of composing a full stream of 2,000 files with 200 snapshots that write one file each; three words
-# may say other numbers of snapshots, of files, and of files that each snapshot writes. Proves and builds the program first.
+# Time and peak memory of composing a full stream of 2,000 files with 200 snapshots that write one
+# file each; three words may say other numbers of snapshots, of files, and of files that each
+# snapshot writes. Proves and builds the program first.
 here=$(CDPATH='' cd -- "$(dirname -- "$0")" && pwd) || exit 2
 parts=${1:-200}
 files=${2:-2000}

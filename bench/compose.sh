@@ -1,7 +1,8 @@
 #!/bin/sh
-# Time and peak memory of composing one full stream of 512 MiB (or of as many as the first word says), beside a C program
-# that does the same work: it reads each byte twice, sums it three times, and writes it. Each runs three times, in turn,
-# and its least time counts. Proves and builds the program first.
+# Time and peak memory of composing one full stream of 512 MiB (or of as many as the first word
+# says), beside a C program that does the same work: it reads each byte twice, sums it three times,
+# and writes it. Each runs three times, in turn, and its least time counts. Proves and builds the
+# program first.
 here=$(CDPATH='' cd -- "$(dirname -- "$0")" && pwd) || exit 2
 size=${1:-512}
 . "$here/prepare.sh"

@@ -1,6 +1,7 @@
 #!/bin/sh
-# Time and peak memory of exporting one full stream of 512 MiB (or of as many as the first word says), beside auditing it and
-# copying what is exported. Each runs three times, in turn, and its least time counts. Proves and builds the program first.
+# Time and peak memory of exporting one full stream of 512 MiB (or of as many as the first word
+# says), beside auditing it and copying what is exported. Each runs three times, in turn, and its
+# least time counts. Proves and builds the program first.
 here=$(CDPATH='' cd -- "$(dirname -- "$0")" && pwd) || exit 2
 size=${1:-512}
 . "$here/prepare.sh"

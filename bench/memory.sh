@@ -1,8 +1,9 @@
 #!/bin/sh
-# Time and peak memory of what once took too much of either: a file that is cloned onto its own end 50 times; a file of 1,000,000
-# runs, alone and with 100 snapshots of it that write 100 places each; and 200,000 files of one run, in one folder by names of 30 bytes,
-# and in folders of 1,000 by paths of 30. Three words may say other numbers of runs, of snapshots, and of files. Proves and builds the
-# program first. Needs python3.
+# Time and peak memory of what once took too much of either: a file that is cloned onto its own end
+# 50 times; a file of 1,000,000 runs, alone and with 100 snapshots of it that write 100 places each;
+# and 200,000 files of one run, in one folder by names of 30 bytes, and in folders of 1,000 by paths
+# of 30. Three words may say other numbers of runs, of snapshots, and of files. Proves and builds
+# the program first. Needs python3.
 here=$(CDPATH='' cd -- "$(dirname -- "$0")" && pwd) || exit 2
 runs=${1:-1000000}
 snapshots=${2:-100}

@@ -1,6 +1,6 @@
-# What scripts that measure begin with (`. "$here/prepare.sh"`): the program is proved and built, and a folder is made that goes
-# with the script; in it stands what streams.c makes. `here` is the folder of this file. `least` gives the least line of a file of
-# measures.
+# What scripts that measure begin with (`. "$here/prepare.sh"`): the program is proved and built,
+# and a folder is made that goes with the script; in it stands what streams.c makes. `here` is the
+# folder of this file. `least` gives the least line of a file of measures.
 "$here/../btrsend" --version >/dev/null || exit 2
 program=$here/../crates/btrsend/out/btrsend
 folder=$(mktemp -d) || exit 2

@@ -1,8 +1,9 @@
 #!/bin/sh
-# Time and peak memory of squashing: one full stream of 512 MiB of which all bytes stay, beside composing it; 30 days that each
-# write a file of 64 MiB anew, merged; and a file that is cloned onto its own end 50 times. Three words may say other numbers of
-# MiB of the stream, of days, and of MiB of the file. The first is done three times, in turn, and its least time counts. Proves
-# and builds the program first.
+# Time and peak memory of squashing: one full stream of 512 MiB of which all bytes stay, beside
+# composing it; 30 days that each write a file of 64 MiB anew, merged; and a file that is cloned
+# onto its own end 50 times. Three words may say other numbers of MiB of the stream, of days, and of
+# MiB of the file. The first is done three times, in turn, and its least time counts. Proves and
+# builds the program first.
 here=$(CDPATH='' cd -- "$(dirname -- "$0")" && pwd) || exit 2
 size=${1:-512}
 days=${2:-30}

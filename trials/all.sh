@@ -3,8 +3,9 @@
 #
 #   all.sh [PROGRAM]     PROGRAM is crates/btrsend/out/btrsend if none is given
 #
-# A trial that cannot run here (there is no Btrfs, or no command that it needs) is skipped, and counted. What a trial that
-# fails has printed is shown. Nothing is proved or built. Status 0 if none failed. It takes some fifteen minutes.
+# A trial that cannot run here (there is no Btrfs, or no command that it needs) is skipped, and
+# counted. What a trial that fails has printed is shown. Nothing is proved or built. Status 0 if
+# none failed. It takes some fifteen minutes.
 here=$(CDPATH='' cd -- "$(dirname -- "$0")" && pwd) || exit 2
 program=${1:-$here/../crates/btrsend/out/btrsend}
 [ -f "$program" ] && [ -x "$program" ] || { echo "there is no program $program" >&2; exit 2; }

@@ -1,5 +1,6 @@
-# A part of received.sh and restored_chain.sh, which read it: Btrfs images, chains of days, and what differs between two
-# subvolumes. It needs `btrsend`, the program, and says with which version of btrfs-progs it runs.
+# A part of received.sh and restored_chain.sh, which read it: Btrfs images, chains of days, and what
+# differs between two subvolumes. It needs `btrsend`, the program, and says with which version of
+# btrfs-progs it runs.
 
 for needed in btrfs mkfs.btrfs python3 "$btrsend"; do
     command -v "$needed" >/dev/null || { echo "there is no command $needed" >&2; exit 2; }
@@ -25,8 +26,8 @@ fresh() {
     exit 2
 }
 
-# compare BEGAN MERGED CHAIN [ORIGINAL]: the paths that differ, at most five. A time that no command sets is that of receiving, and
-# not compared: receiving began at BEGAN.
+# compare BEGAN MERGED CHAIN [ORIGINAL]: the paths that differ, at most five. A time that no command
+# sets is that of receiving, and not compared: receiving began at BEGAN.
 cat >"$folder/compare" <<'PYTHON'
 import hashlib, os, stat, sys
 
@@ -79,8 +80,9 @@ judged() {
     if [ "$2" = 0 ]; then right=$((right + 1)); echo "right $1"; else wrong=$((wrong + 1)); echo "WRONG $1${3:+: $3}"; fi
 }
 
-# What is done on each day of a case, in the subvolume that is sent. `put` makes a file of so many bytes of one letter, and
-# `save` does as editors do: it writes a new file and renames it over the old one.
+# What is done on each day of a case, in the subvolume that is sent. `put` makes a file of so many
+# bytes of one letter, and `save` does as editors do: it writes a new file and renames it over the
+# old one.
 put() { printf "%*s" "$2" '' | tr ' ' "$3" >"$1"; }
 save() { put "$1.new" "$2" "$3" && mv "$1.new" "$1"; }
 letter() { printf "\\$(printf %o $((96 + $1)))"; }
@@ -128,7 +130,8 @@ day_of() {
     esac
 }
 
-# All kinds of inodes, modes, owners, attributes, capabilities and ACLs, default ones too; links across folders, and deep folders.
+# All kinds of inodes, modes, owners, attributes, capabilities and ACLs, default ones too; links
+# across folders, and deep folders.
 acl() { python3 -c "import os, sys; os.setxattr(sys.argv[1], 'system.posix_acl_' + sys.argv[2], bytes.fromhex('02000000' + sys.argv[3]))" "$@"; }
 capable() { python3 -c "import os, sys; os.setxattr(sys.argv[1], 'security.capability', bytes.fromhex('0100000200200000000000000000000000000000'))" "$1"; }
 marked() { python3 -c "import os, sys; os.setxattr(sys.argv[1], 'user.' + sys.argv[2], os.fsencode(sys.argv[3]))" "$@"; }

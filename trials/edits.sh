@@ -8,9 +8,12 @@
 # Status 0 if the page is right. Needs python3.
 here=$(CDPATH='' cd -- "$(dirname -- "$0")/.." && pwd) || exit 2
 cd -- "$here" || exit 2
-exec python3 - "$@" <<'PYTHON'
+exec python3 -B - "$@" <<'PYTHON'
 import glob
 import sys
+
+sys.path.insert(0, 'trials')
+from pages import keep
 
 PAGE, BEGIN, END = 'docs/PROOFS.md', '<!-- BEGIN EDITS -->\n', '<!-- END EDITS -->\n'
 COLUMNS = 4
@@ -28,18 +31,6 @@ for at in range(rows):
     lines.append('| ' + ' | '.join(row) + ' |\n')
 lines += ['\n', 'These are %d, in %d crates.\n' % (sum(counts.values()), len(counts))]
 
-page = open(PAGE).read()
-before, begins, rest = page.partition(BEGIN)
-old, ends, after = rest.partition(END)
-if not ends:
-    print(PAGE + ' has no place for the edits')
-    sys.exit(1)
-new = before + begins + ''.join(lines) + ends + after
-if sys.argv[1:] == ['--write']:
-    open(PAGE, 'w').write(new)
-    print('written: ' + PAGE)
-elif new != page:
-    print(PAGE + ' counts other edits than crates/*/must-fail: edits.sh --write')
-    sys.exit(1)
+keep(PAGE, (BEGIN, END), lines, 'edits.sh', 'counts other edits than crates/*/must-fail')
 print('edits.sh: all right')
 PYTHON

@@ -1,5 +1,6 @@
-# A part of faults.sh, which reads it: explanations, with BTRSEND_EXPLAIN and on a terminal, and what is said in front of files,
-# `name:NEW` and `parent:UUID:CTRANSID`. It uses the streams and the calls of faults.sh, and stores that stand there.
+# A part of faults.sh, which reads it: explanations, with BTRSEND_EXPLAIN and on a terminal, and
+# what is said in front of files, `name:NEW` and `parent:UUID:CTRANSID`. It uses the streams and the
+# calls of faults.sh, and stores that stand there.
 
 # The words that follow, with a terminal for all three files; what it shows goes to standard output.
 cat >on_terminal.py <<'PYTHON'
@@ -22,7 +23,8 @@ PYTHON
 explain() { BTRSEND_EXPLAIN=1 timeout 20 "$program" "$@" >out 2>note; status=$?; }
 on_terminal() { timeout 20 python3 on_terminal.py "$program" "$@" >shown; status=$?; }
 
-# CASE STATUS FILE: the last run ended with this status, and FILE has the two lines of the file `wanted`.
+# CASE STATUS FILE: the last run ended with this status, and FILE has the two lines of the file
+# `wanted`.
 explained() {
     if [ "$status" != "$2" ]; then case_is "$1" "status $status and not $2"
     elif ! cmp -s "$3" wanted; then case_is "$1" "it says '$(cat "$3")'"
@@ -200,7 +202,8 @@ tells 'a missing source' 1 'refused 1 3 79 28 NoSource' \
     "sourceless, command 3: a clone takes its data from a snapshot that is missing: give the streams of that one first; its UUID is ${uuid}1" \
     audit none sourceless
 
-# ---- a snapshot that was restored, and what is sent on top of it: `restored` names b's UUID, and the CTRANSID 11 of the copy
+# ---- a snapshot that was restored, and what is sent on top of it: `restored` names b's UUID, and
+# the CTRANSID 11 of the copy
 
 rm -f parents; "$program" init parents; "$program" receive parents small second >/dev/null; cp parents parents-before
 meant=parent:${uuid}2:2

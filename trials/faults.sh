@@ -1,21 +1,19 @@
 #!/bin/sh
-# Tries the whole program against real faults: outputs that are full, closed or cut off, files that can not be read, that are
-# pipes, or that change between two readings, short reads and short writes, many words and strange ones; and against stores that
-# are missing, in use, damaged, or whose file fails. And its explanations, and what is said in front of files: explained.sh, which
-# is read here. Most cases are of `compose`, and some of each other word. The program is the first word, or else the one that this
-# repository has built; nothing is proved or built here. It prints a line for each case, and ends with status 0 only where all
-# are right. Needs python3, which makes the streams, and gcc.
+# Tries the whole program against real faults: outputs that are full, closed or cut off, files that
+# can not be read, that are pipes, or that change between two readings, short reads and short
+# writes, many words and strange ones; and against stores that are missing, in use, damaged, or
+# whose file fails. And its explanations, and what is said in front of files: explained.sh, which is
+# read here. Most cases are of `compose`, and some of each other word. The program is the first
+# word, or else the one that this repository has built; nothing is proved or built here. It prints a
+# line for each case, and ends with status 0 only where all are right. Needs python3, which makes
+# the streams, and gcc.
 here=$(CDPATH='' cd -- "$(dirname -- "$0")" && pwd) || exit 2
-program=${1:-$here/../crates/btrsend/out/btrsend}
-[ -f "$program" ] && [ -x "$program" ] || { echo "there is no program $program" >&2; exit 2; }
-program=$(CDPATH='' cd -- "$(dirname -- "$program")" && pwd)/$(basename -- "$program") || exit 2
-folder=$(mktemp -d) || exit 2
-trap 'rm -rf -- "$folder"' EXIT
-trap 'exit 2' HUP INT TERM
+program=$1
+. "$here/begin.sh"
 cd -- "$folder" || exit 2
 
-# The streams, and what chains of them are composed into. `first` has about a million bytes, so that the program writes while
-# it still reads; the others are small.
+# The streams, and what chains of them are composed into. `first` has about a million bytes, so that
+# the program writes while it still reads; the others are small.
 python3 - <<'PYTHON' || exit 2
 import os
 import struct
@@ -88,8 +86,9 @@ put('damaged-note', b'refused 1 3 111 5 BadChecksum %08x %08x\n' % (stored, chec
 put('small-second', full(b'b', 2, one + two))
 put('first-second', full(b'b', 2, long + two))
 
-# What is sent on top of a restored `b`, which has its UUID and the CTRANSID 11; the same as it is meant; with a name; and a full
-# stream that clones from it. `two-sources` clones from a restored `a` too, and `after` is what is sent next.
+# What is sent on top of a restored `b`, which has its UUID and the CTRANSID 11; the same as it is
+# meant; with a name; and a full stream that clones from it. `two-sources` clones from a restored
+# `a` too, and `after` is what is sent next.
 def on_restored(name, ctransid, clones=b''):
     head = command(2, uuid=uuid(7), ctransid=12, path=name, clone_uuid=uuid(2), clone_ctransid=ctransid)
     return HEADER + head + three + command(3, path=b'4') + clone_of(2, ctransid, b'2') + clones + END
@@ -115,7 +114,8 @@ put('first-third', full(b'c', 3, long + two + three))
 put('first-same-head', full(b'b', 2, long + other))
 put('first-other-head', full(b'd', 2, long + other))
 
-# The last command of `taker` is a clone of the first's file, whose data begin at place 110 of `donor`.
+# The last command of `taker` is a clone of the first's file, whose data begin at place 110 of
+# `donor`.
 given = bytes(range(250)) * 80
 clone = dict(offset=0, clone_uuid=uuid(1), clone_ctransid=1, clone_path=b'1', clone_offset=0, clone_len=len(given))
 put('sourceless', full(b'c', 3, file(b'2') + command(16, path=b'2', **clone)))
@@ -123,7 +123,8 @@ put('donor', full(b'a', 1, file(b'1', given)))
 put('taker', later(b'b', 2, long + file(b'2') + command(16, path=b'2', **clone)))
 put('donor-taker', full(b'b', 2, file(b'1', given) + long + file(b'2', given)))
 
-# A file that is cloned onto its own end until it has 2^50 runs and 2^62 bytes, and a later part that clones all of it.
+# A file that is cloned onto its own end until it has 2^50 runs and 2^62 bytes, and a later part
+# that clones all of it.
 doubled, length = [command(3, path=b'1'), command(15, path=b'1', offset=0, data=bytes(4096))], 4096
 own = dict(clone_uuid=uuid(1), clone_ctransid=1, clone_path=b'1', clone_offset=0)
 for _ in range(50):
@@ -145,8 +146,8 @@ for number in range(20000):
     put('alike' * 9 + '/%05d' % number, part)
 PYTHON
 
-# Stands between the program and its C library. With SHORT reads and writes move at most so many bytes a call; the call
-# whose number is FAIL_READ or FAIL_WRITE fails.
+# Stands between the program and its C library. With SHORT reads and writes move at most so many
+# bytes a call; the call whose number is FAIL_READ or FAIL_WRITE fails.
 gcc -O2 -shared -fPIC -o faults.so -x c - <<'C' || exit 2
 #include <errno.h>
 #include <stdlib.h>
@@ -227,7 +228,8 @@ cut() {
     [ "$status" = 0 ] || ! tail -c 10 out | cmp -s - end || echo "status $status, and yet a whole stream"
 }
 
-# CASE STATUS NOTE: the last run ended with this status and this line on standard error, and left no whole stream.
+# CASE STATUS NOTE: the last run ended with this status and this line on standard error, and left no
+# whole stream.
 refused() {
     if [ "$status" != "$2" ]; then case_is "$1" "status $status and not $2"
     elif [ "$(cat note)" != "$3" ]; then case_is "$1" "the note is '$(cat note)' and not '$3'"
@@ -242,7 +244,8 @@ composed() {
     else case_is "$1" ''; fi
 }
 
-# CASE STREAM..: the last run ended with status 0 and one of these streams, or refused its files and left no whole stream.
+# CASE STREAM..: the last run ended with status 0 and one of these streams, or refused its files and
+# left no whole stream.
 never_wrong() {
     name="$1, status $status"; shift
     case $status in
@@ -282,7 +285,8 @@ run "$(printf '\377')"; refused 'a word that is not UTF-8' 2 usage
 run compose none "$(printf 'small\377')"; refused 'a file whose name is not UTF-8' 2 usage
 run $(seq 1 20000); refused '20,000 words' 2 usage
 
-# ---- outputs. The device /dev/full is always full, and a limit of two blocks lets the first bytes through.
+# ---- outputs. The device /dev/full is always full, and a limit of two blocks lets the first bytes
+# through.
 
 : >out
 mkfifo nobody || exit 2
@@ -379,7 +383,8 @@ run compose none /dev/null; refused 'the empty device' 1 'refused 1 1 0 3 Trunca
 run compose none /dev/zero; refused 'a device without end' 1 'refused 1 1 0 1 BadMagic'
 run compose none small small; refused 'the same file twice' 1 'refused 2 1 17 11 NameThere'
 
-# A pipe gives its bytes once, and each file is read twice. The second feeder waits until the first reading is over.
+# A pipe gives its bytes once, and each file is read twice. The second feeder waits until the first
+# reading is over.
 (exec cat small second >fifo) &
 first=$!
 run compose none fifo
@@ -404,8 +409,8 @@ cat second | { timeout 20 "$program" compose none small /dev/stdin >/dev/full 2>
 status=$(cat status)
 refused 'standard input, a pipe, and a full device' 3 'input fault'
 
-# A pipe is opened once. Its second opening would wait for ever, since who wrote into it is gone: it is a fault at once, by every name
-# and also where the pipe was closed for 16 other files.
+# A pipe is opened once. Its second opening would wait for ever, since who wrote into it is gone: it
+# is a fault at once, by every name and also where the pipe was closed for 16 other files.
 mkfifo once && ln once linked && ln -s once pointing || exit 2
 
 # WORD..: the last run, while the first stream of the long chain is written into the pipe once.
@@ -453,8 +458,8 @@ PYTHON
 
 # ---- files that change between the readings
 
-# CHANGE FILE..: once the program begins to write, and so is in its second reading, and waits for its output to be read,
-# CHANGE is run. The file `first` is longer than what it has read then.
+# CHANGE FILE..: once the program begins to write, and so is in its second reading, and waits for
+# its output to be read, CHANGE is run. The file `first` is longer than what it has read then.
 changing() {
     change=$1; shift
     rm -f pipe && mkfifo pipe || exit 2
@@ -538,7 +543,8 @@ each_fails FAIL_WRITE 4 'output fault'
 
 # ---- stores
 
-# CASE FILE: the last run ended with status 0, wrote what the file has, and nothing on standard error.
+# CASE FILE: the last run ended with status 0, wrote what the file has, and nothing on standard
+# error.
 wrote() {
     if [ "$status" != 0 ]; then case_is "$1" "status $status: $(cat note)"
     elif [ -s note ]; then case_is "$1" "there is a note: $(cat note)"
@@ -604,8 +610,8 @@ run receive store small </dev/null; (timeout 20 "$program" receive store second 
 refused 'the output is full, and the store goes on' 4 'output fault'
 run list store; wrote 'what it received' list-both
 
-# VARIABLE: each call fails once. A receive that does not end with 0 leaves a store that can be opened, with each part that was
-# acknowledged, and goes on where that one stopped.
+# VARIABLE: each call fails once. A receive that does not end with 0 leaves a store that can be
+# opened, with each part that was acknowledged, and goes on where that one stopped.
 each_store_fails() {
     call=1
     while :; do
@@ -667,7 +673,8 @@ run squash none two-parts; refused 'a second part is not squashed' 1 "refused 1 
 
 # ---- closed standard descriptors
 
-# Runs the program with some of the descriptors 0, 1 and 2 closed: bit N of the first argument closes descriptor N.
+# Runs the program with some of the descriptors 0, 1 and 2 closed: bit N of the first argument
+# closes descriptor N.
 cat >closed.py <<'PYTHON'
 import os, sys
 for descriptor in range(3):
@@ -676,9 +683,10 @@ for descriptor in range(3):
 os.execv(sys.argv[2], sys.argv[2:])
 PYTHON
 
-# OUTPUT COMMAND..: runs the command over a copy of a store with each of the eight ways to close descriptors. The store must
-# afterwards be what it is without a closed one. The status is then 4 if standard output is closed and OUTPUT is `writes`, else the
-# same. A message comes only if standard error is open.
+# OUTPUT COMMAND..: runs the command over a copy of a store with each of the eight ways to close
+# descriptors. The store must afterwards be what it is without a closed one. The status is then 4 if
+# standard output is closed and OUTPUT is `writes`, else the same. A message comes only if standard
+# error is open.
 closed_ways() {
     output=$1; shift
     rm -f closed-new; cp closed-store closed-wanted

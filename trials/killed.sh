@@ -1,21 +1,20 @@
 #!/bin/sh
-# Ends receives by `kill -9` at random moments, and looks after each whether the store has what was acknowledged and goes on.
+# Ends receives by `kill -9` at random moments, and looks after each whether the store has what was
+# acknowledged and goes on.
 #
 #   killed.sh [TIMES [PROGRAM]]     so many receives (1,000) are ended so
 #
-# The chain is one that `gen` makes. After each end `list` has to open the store, and to show as complete each part whose line
-# stood whole on standard output, in the chain's order; at most one more is unfinished, and is dropped. The next receive
-# gets the streams from the first part on that is not complete. Once a chain is whole, each of its parts is shown as one that was
-# received in one go, `scrub` finds no fault, and a new store is begun. The program is the one that this repository has built, if
-# no other is named; nothing is proved or built here. Status 0 where all was right. Needs python3.
+# The chain is one that `gen` makes. After each end `list` has to open the store, and to show as
+# complete each part whose line stood whole on standard output, in the chain's order; at most one
+# more is unfinished, and is dropped. The next receive gets the streams from the first part on that
+# is not complete. Once a chain is whole, each of its parts is shown as one that was received in one
+# go, `scrub` finds no fault, and a new store is begun. The program is the one that this repository
+# has built, if no other is named; nothing is proved or built here. Status 0 where all was right.
+# Needs python3.
 here=$(CDPATH='' cd -- "$(dirname -- "$0")" && pwd) || exit 2
 times=${1:-1000}
-program=${2:-$here/../crates/btrsend/out/btrsend}
-[ -f "$program" ] && [ -x "$program" ] || { echo "there is no program $program" >&2; exit 2; }
-program=$(CDPATH='' cd -- "$(dirname -- "$program")" && pwd)/$(basename -- "$program") || exit 2
-folder=$(mktemp -d) || exit 2
-trap 'rm -rf -- "$folder"' EXIT
-trap 'exit 2' HUP INT TERM
+program=$2
+. "$here/begin.sh"
 cd -- "$folder" || exit 2
 python3 - "$program" "$times" <<'PYTHON'
 import os, random, struct, subprocess, sys, time
@@ -31,7 +30,8 @@ def wrong(why, done=None):
     print('WRONG: %s%s' % (why, '' if done is None else ': status %d, %r' % (done.returncode, done.stderr)))
     sys.exit(1)
 
-# The streams of a chain, one for each part: a header of 17 bytes, and frames up to END, which has the number 21.
+# The streams of a chain, one for each part: a header of 17 bytes, and frames up to END, which has
+# the number 21.
 def streams_of(chain):
     found, start = [], 0
     while start < len(chain):

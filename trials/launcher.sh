@@ -1,9 +1,13 @@
 #!/bin/sh
-# The launcher `btrsend` at the top of the repository: what it says while the program is built, how it puts the program in place, and how it
-# runs it while nothing is built. With no word nothing is proved or built here: a command `rt` of this script's own stands for the kit's. With
-# the word --unproved the kit's is used too, for a run of the program by `rt try`, which takes some minutes.
-#   trials/launcher.sh [--unproved] [PROGRAM]   PROGRAM is a built one, crates/btrsend/out/btrsend if none is given
-# It ends with status 0 only where all is right.
+# The launcher `btrsend` at the top of the repository: what it says while the program is built, how
+# it puts the program in place, and how it runs it while nothing is built. With no word nothing is
+# proved or built here: a command `rt` of this script's own stands for the kit's. With the word
+# --unproved the kit's is used too, for a run of the program by `rt try`, which takes some minutes.
+#
+#   launcher.sh [--unproved] [PROGRAM]
+#
+# PROGRAM is a built one, crates/btrsend/out/btrsend if none is given. It ends with status 0 only if
+# all is right.
 here=$(CDPATH='' cd -- "$(dirname -- "$0")" && pwd)/.. || exit 2
 here=$(CDPATH='' cd -- "$here" && pwd) || exit 2
 tries=

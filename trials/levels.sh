@@ -10,9 +10,12 @@
 # which somebody tries a proof. Status 0 if the page is right. Needs python3.
 here=$(CDPATH='' cd -- "$(dirname -- "$0")/.." && pwd) || exit 2
 cd -- "$here" || exit 2
-exec python3 - "$@" <<'PYTHON'
+exec python3 -B - "$@" <<'PYTHON'
 import sys
 import textwrap
+
+sys.path.insert(0, 'trials')
+from pages import keep
 
 PAGE, BEGIN, END = 'docs/ARCHITECTURE.md', '<!-- BEGIN LEVELS -->\n', '<!-- END LEVELS -->\n'
 
@@ -50,18 +53,6 @@ for number in sorted(set(level.values()), reverse=True):
                                                     drop_whitespace=False)]
 lines = [it.rstrip() + '\n' for it in lines + ['```\n']]
 
-page = open(PAGE).read()
-before, begins, rest = page.partition(BEGIN)
-old, ends, after = rest.partition(END)
-if not ends:
-    print(PAGE + ' has no place for the levels')
-    sys.exit(1)
-new = before + begins + ''.join(lines) + ends + after
-if sys.argv[1:] == ['--write']:
-    open(PAGE, 'w').write(new)
-    print('written: ' + PAGE)
-elif new != page:
-    print(PAGE + ' shows other levels than crates.txt: levels.sh --write')
-    sys.exit(1)
+keep(PAGE, (BEGIN, END), lines, 'levels.sh', 'shows other levels than crates.txt')
 print('levels.sh: all right')
 PYTHON

@@ -1,11 +1,13 @@
 #!/bin/sh
-# The parts of the man page that say what the program says: its version, its SYNOPSIS, which is the usage of `--help`, and the
-# explanation of each message and each refusal. The last two are between lines of their own, which name them. All come from the
-# program's texts in the sources of `host_io`: help.rt and advice.rt. With --write they are written anew. Without it they are
-# compared, and each line that differs is printed. The rest of the man page is written by hand. Each command of the usage, each
-# status and each refusal must have one entry there, README.md must name each command, and the same message for each status,
-# CHANGELOG.md must begin with the version, and `man` must warn of nothing. Nothing is proved or built here. Status 0 only if all
-# is right. Needs python3 and man.
+# The parts of the man page that say what the program says: its version, its SYNOPSIS, which is the
+# usage of `--help`, and the explanation of each message and each refusal. The last two are between
+# lines of their own, which name them. All come from the program's texts in the sources of
+# `host_io`: help.rt and advice.rt. With --write they are written anew. Without it they are
+# compared, and each line that differs is printed. The rest of the man page is written by hand. Each
+# command of the usage, each status and each refusal must have one entry there, README.md must name
+# each command, and the same message for each status, CHANGELOG.md must begin with the version, and
+# `man` must warn of nothing. Nothing is proved or built here. Status 0 only if all is right. Needs
+# python3 and man.
 here=$(CDPATH='' cd -- "$(dirname -- "$0")" && pwd)/.. || exit 2
 cd -- "$here" || exit 2
 case $*: in
@@ -37,7 +39,8 @@ def plain(text):
         text = text.replace(char, spelled)
     return '\\&' + text if text[:1] in ('.', "'") else text
 
-# Words of a call: those to be written as they are in bold, and those that stand for others, in capitals, in italics.
+# Words of a call: those to be written as they are in bold, and those that stand for others, in
+# capitals, in italics.
 def call(text):
     line = ''
     for token in re.findall(r'[A-Z][A-Z_]*|(?:--)?[a-z][a-z0-9:]*|\.\.|.', text):
@@ -67,7 +70,8 @@ def rows(table):
     found = re.findall(r'\(\s*b?"([^"]*)",\s*(?:"([^"]*)"|([A-Z_]+)),?\s*\)', text)
     return [(name, said or constants[constant]) for name, said, constant in found]
 
-# The sentences of the arms of a function, each of which has one, or asks another function of this form.
+# The sentences of the arms of a function, each of which has one, or asks another function of this
+# form.
 def arms(function):
     text = re.search(r'fn ' + function + r'\b.*?\n}', advice, re.S).group(0)
     found = re.findall(r'=>\s*\{?\s*"([^"]*)"', text)

@@ -3,10 +3,11 @@
 #
 #   readme.sh [PROGRAM]     PROGRAM is crates/btrsend/out/btrsend if none is given
 #
-# An example is a line that begins with `$ ` in an indented or fenced block, with the lines below it up to the next one or to
-# the end of the block. All run one after the other in one shell, in a scratch folder that has what docs/example has, with
-# PROGRAM as the command `btrsend`. Examples with `btrfs` need root and a Btrfs: they are skipped, and counted. Nothing is
-# proved or built here. Status 0 if all are right. Needs bash and python3.
+# An example is a line that begins with `$ ` in an indented or fenced block, with the lines below it
+# up to the next one or to the end of the block. All run one after the other in one shell, in a
+# scratch folder that has what docs/example has, with PROGRAM as the command `btrsend`. Examples
+# with `btrfs` need root and a Btrfs: they are skipped, and counted. Nothing is proved or built
+# here. Status 0 if all are right. Needs bash and python3.
 here=$(CDPATH='' cd -- "$(dirname -- "$0")/.." && pwd) || exit 2
 program=${1:-$here/crates/btrsend/out/btrsend}
 [ -f "$program" ] && [ -x "$program" ] || { echo "there is no program $program" >&2; exit 2; }

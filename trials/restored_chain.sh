@@ -1,19 +1,23 @@
 #!/bin/bash
-# Tries chains that go on after a restore, with the real tools. A chain is received into a store, day by day. After one of its days
-# the machine is lost: that day is restored from the store with the real `btrfs receive`, onto a fresh file system. What is done the
-# next day is done there, and sent with `-p` the restored day: its stream names that day's UUID, and another CTRANSID.
+# Tries chains that go on after a restore, with the real tools. A chain is received into a store,
+# day by day. After one of its days the machine is lost: that day is restored from the store with
+# the real `btrfs receive`, onto a fresh file system. What is done the next day is done there, and
+# sent with `-p` the restored day: its stream names that day's UUID, and another CTRANSID.
 #
 #   restored_chain.sh [PROGRAM]     PROGRAM is crates/btrsend/out/btrsend if none is given
 #
-# The next stream has to be refused as NoParent, by `audit`, `compose`, `export` and `receive`, and nothing is changed then. The
-# explanation says what to put before the file. With this, `parent:UUID:CTRANSID`, they accept it, and the days after it need nothing.
-# At the end each day is restored from the store. And all days, and those after the restore, are merged over none and over a store of
-# the days before, and exported and received; the second are also received into that store, and restored from it. Bytes and metadata
-# of every path of each are compared with the snapshot that was sent, and with what `btrfs receive` makes of the streams alone.
+# The next stream has to be refused as NoParent, by `audit`, `compose`, `export` and `receive`, and
+# nothing is changed then. The explanation says what to put before the file. With this,
+# `parent:UUID:CTRANSID`, they accept it, and the days after it need nothing. At the end each day is
+# restored from the store. And all days, and those after the restore, are merged over none and over
+# a store of the days before, and exported and received; the second are also received into that
+# store, and restored from it. Bytes and metadata of every path of each are compared with the
+# snapshot that was sent, and with what `btrfs receive` makes of the streams alone.
 #
-# It tries cases of received.sh in both versions of the protocol, one of them with two restores, and CHAINS random chains (4). A line
-# for each begins with `right` or `WRONG`. Needs btrfs-progs, python3, and the right to mount an image. Nothing is proved or built
-# here. Status 0 if all are right, and 2 if nothing can be received here.
+# It tries cases of received.sh in both versions of the protocol, one of them with two restores, and
+# CHAINS random chains (4). A line for each begins with `right` or `WRONG`. Needs btrfs-progs,
+# python3, and the right to mount an image. Nothing is proved or built here. Status 0 if all are
+# right, and 2 if nothing can be received here.
 set -o pipefail
 here=$(CDPATH='' cd -- "$(dirname -- "$0")" && pwd) || exit 2
 btrsend=${1:-$here/../crates/btrsend/out/btrsend}
@@ -21,8 +25,9 @@ btrsend=${1:-$here/../crates/btrsend/out/btrsend}
 btrsend=$(CDPATH='' cd -- "$(dirname -- "$btrsend")" && pwd)/$(basename -- "$btrsend") || exit 2
 . "$here/chains.sh"
 
-# CASE DAY: the day is restored from the store onto the fresh file system `machine.DAY`, on which some things were done before, so
-# that it does not count as the other did. What is done next is done there.
+# CASE DAY: the day is restored from the store onto the fresh file system `machine.DAY`, on which
+# some things were done before, so that it does not count as the other did. What is done next is
+# done there.
 lost() {
     fresh "machine.$2" 256
     for _ in 1 2 3 4 5; do
@@ -34,8 +39,8 @@ lost() {
     btrfs -q subvolume snapshot "$place/day$2" "$place/work" || exit 2
 }
 
-# FILE DAY: the stream of the next day has to be refused. Gives what its explanation says is to be put before it, which has to be the
-# day before as `list` shows it.
+# FILE DAY: the stream of the next day has to be refused. Gives what its explanation says is to be
+# put before it, which has to be the day before as `list` shows it.
 refused_at_first() {
     cp "$folder/store" "$folder/store.kept" || return
     local command
@@ -49,7 +54,8 @@ refused_at_first() {
     [ -n "$said" ] && [ "$said" = "$("$btrsend" list "$folder/store" | awk -v day="day$2" '$1 == day { print "parent:" $2 ":" $3 }')" ]
 }
 
-# NAME SUBVOLUME DAY: what was received somewhere is the snapshot that was sent on that day, and what the streams alone make.
+# NAME SUBVOLUME DAY: what was received somewhere is the snapshot that was sent on that day, and
+# what the streams alone make.
 same() {
     differs=$(python3 "$folder/compare" "$began" "$2" "$folder/chain/day$3" "${sent[$3]}") && return
     judged "$1" 1
@@ -57,7 +63,8 @@ same() {
     return 1
 }
 
-# NAME STORE PLACE DAY WORDS..: what these words are merged into over a store, or over none, is exported and received at a place.
+# NAME STORE PLACE DAY WORDS..: what these words are merged into over a store, or over none, is
+# exported and received at a place.
 merged() {
     local name=$1 over=$2 at=$3 last=$4
     shift 4
@@ -109,7 +116,8 @@ went_on() {
     made_again "$name" "$1"
 }
 
-# NAME RESTORE: all ways back of the chain that was sent, the first restore of which was after a day.
+# NAME RESTORE: all ways back of the chain that was sent, the first restore of which was after a
+# day.
 made_again() {
     began=$(date +%s%N)
     fresh chain 512

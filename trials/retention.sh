@@ -3,26 +3,16 @@
 #
 #   retention.sh [PROGRAM]     PROGRAM is crates/btrsend/out/btrsend if none is given
 #
-# 30 days are received: one file is written anew each day, one grows, one comes and goes, one is cloned and one stays. Then for
-# each of the days 10, 20 and 30 the streams since the kept day before come out of the store by `stream`, `compose` merges them,
-# `squash` takes out what the kept day does not have, and the new store receives that. `scrub` reads all of it. The kept days must
-# be the same in both stores: what `show` prints, what `send` writes, and what `cat` writes of each file. The last line has the
-# sizes. Status 0 if all is right.
+# 30 days are received: one file is written anew each day, one grows, one comes and goes, one is
+# cloned and one stays. Then for each of the days 10, 20 and 30 the streams since the kept day
+# before come out of the store by `stream`, `compose` merges them, `squash` takes out what the kept
+# day does not have, and the new store receives that. `scrub` reads all of it. The kept days must be
+# the same in both stores: what `show` prints, what `send` writes, and what `cat` writes of each
+# file. The last line has the sizes. Status 0 if all is right.
 here=$(CDPATH='' cd -- "$(dirname -- "$0")" && pwd) || exit 2
-program=${1:-$here/../crates/btrsend/out/btrsend}
-[ -f "$program" ] && [ -x "$program" ] || { echo "there is no program $program" >&2; exit 2; }
-program=$(CDPATH='' cd -- "$(dirname -- "$program")" && pwd)/$(basename -- "$program") || exit 2
-folder=$(mktemp -d) || exit 2
-trap 'rm -rf -- "$folder"' EXIT
-trap 'exit 2' HUP INT TERM
+program=$1
+. "$here/begin.sh"
 cd -- "$folder" || exit 2
-wrong=0
-
-# WHAT: something is wrong.
-complain() {
-    echo "WRONG: $1"
-    wrong=$((wrong + 1))
-}
 
 # DAY: its stream as a text.
 day() {

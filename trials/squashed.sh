@@ -1,30 +1,24 @@
 #!/bin/sh
 # Merged streams and what `squash` makes of them: the same snapshot, and nothing twice.
 #
-#   squashed.sh [PROGRAM [FILE..]]     PROGRAM is crates/btrsend/out/btrsend if none is given, and the files are those of
-#                                      docs/example: a chain in its order, of which the first begins with a full stream
+#   squashed.sh [PROGRAM [FILE..]]
 #
-# The chain is merged and squashed over no store, and from each further file on over a store that has the files before it; so are
-# chains that `gen` writes, 20 of them, or as many as SEEDS says. Of each: a store that receives the merged stream and one that
-# receives the squashed one have the same `list` and `show`, and `send` writes the same bytes of both; squashing again changes
-# nothing; squashing over the store that has the snapshot already gives the same; both streams are squashed to no more bytes than
-# they had. Status 0 if all is right.
+# PROGRAM is crates/btrsend/out/btrsend if none is given. The files are a chain in its order, of which
+# the first begins with a full stream; that of docs/example if none is given.
+#
+# The chain is merged and squashed over no store, and from each further file on over a store that
+# has the files before it; so are chains that `gen` writes, 20 of them, or as many as SEEDS says. Of
+# each: a store that receives the merged stream and one that receives the squashed one have the same
+# `list` and `show`, and `send` writes the same bytes of both; squashing again changes nothing;
+# squashing over the store that has the snapshot already gives the same; both streams are squashed
+# to no more bytes than they had. Status 0 if all is right.
 here=$(CDPATH='' cd -- "$(dirname -- "$0")" && pwd) || exit 2
-program=${1:-$here/../crates/btrsend/out/btrsend}
-[ -f "$program" ] && [ -x "$program" ] || { echo "there is no program $program" >&2; exit 2; }
-program=$(CDPATH='' cd -- "$(dirname -- "$program")" && pwd)/$(basename -- "$program") || exit 2
+program=$1
+. "$here/begin.sh"
 [ $# -gt 0 ] && shift
-[ $# -gt 0 ] || set -- "$here/../docs/example/monday" "$here/../docs/example/tuesday" "$here/../docs/example/wednesday"
-folder=$(mktemp -d) || exit 2
-trap 'rm -rf -- "$folder"' EXIT
-trap 'exit 2' HUP INT TERM
-wrong=0 streams=0 before=0 after=0
-
-# WHAT: something is wrong.
-complain() {
-    echo "WRONG: $1"
-    wrong=$((wrong + 1))
-}
+example=$here/../docs/example
+[ $# -gt 0 ] || set -- "$example/monday" "$example/tuesday" "$example/wednesday"
+streams=0 before=0 after=0
 
 # STORE|none FILE..: what is merged over it.
 squashed() {

@@ -1,29 +1,22 @@
 #!/bin/sh
 # Streams out of a store: what `stream` writes of each snapshot is what was received.
 #
-#   streamed.sh [PROGRAM [FILE..]]     PROGRAM is crates/btrsend/out/btrsend if none is given, and the files are those of
-#                                      docs/example: a chain in its order. Each FILE has one or more whole streams of one
-#                                      snapshot each
+#   streamed.sh [PROGRAM [FILE..]]
 #
-# The chain, and what `gen` writes, is received into a store. What `stream` writes of all snapshots, one after the other, is byte
-# for byte what `pack` makes of the text of the files, the one spelling of the same commands. A second store receives it, in the
-# same order, and its `list` and `show` are those of the first. Status 0 if all is right.
+# PROGRAM is crates/btrsend/out/btrsend if none is given. The files are a chain in its order, that of
+# docs/example if none is given. Each has one or more whole streams of one snapshot each.
+#
+# The chain, and what `gen` writes, is received into a store. What `stream` writes of all snapshots,
+# one after the other, is byte for byte what `pack` makes of the text of the files, the one spelling
+# of the same commands. A second store receives it, in the same order, and its `list` and `show` are
+# those of the first. Status 0 if all is right.
 here=$(CDPATH='' cd -- "$(dirname -- "$0")" && pwd) || exit 2
-program=${1:-$here/../crates/btrsend/out/btrsend}
-[ -f "$program" ] && [ -x "$program" ] || { echo "there is no program $program" >&2; exit 2; }
-program=$(CDPATH='' cd -- "$(dirname -- "$program")" && pwd)/$(basename -- "$program") || exit 2
+program=$1
+. "$here/begin.sh"
 [ $# -gt 0 ] && shift
-[ $# -gt 0 ] || set -- "$here/../docs/example/monday" "$here/../docs/example/tuesday" "$here/../docs/example/wednesday"
-folder=$(mktemp -d) || exit 2
-trap 'rm -rf -- "$folder"' EXIT
-trap 'exit 2' HUP INT TERM
-wrong=0 snapshots=0
-
-# WHAT: something is wrong.
-complain() {
-    echo "WRONG: $1"
-    wrong=$((wrong + 1))
-}
+example=$here/../docs/example
+[ $# -gt 0 ] || set -- "$example/monday" "$example/tuesday" "$example/wednesday"
+snapshots=0
 
 # FILE..: a chain.
 chain() {

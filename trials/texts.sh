@@ -1,23 +1,23 @@
 #!/bin/sh
 # Streams as text and back: `text` and `pack` of each file, and what the program makes of both.
 #
-#   texts.sh [PROGRAM [FILE..]]     PROGRAM is crates/btrsend/out/btrsend if none is given, and the files are those of
-#                                   docs/example. Each FILE is a whole stream, or several one after the other
+#   texts.sh [PROGRAM [FILE..]]
 #
-# Of each file: `text` ends with status 0; `pack` makes streams of this text, which have the same text, in a pipe too; packing that
-# again changes nothing; `dump` prints the same commands of both, but for their places. What `compose` and `gen` write is in the one
-# spelling already, so it comes back byte for byte; so is what `send` of a store writes. A text that is cut behind each of its lines is refused at the line
-# behind the last one. Status 0 if all is right.
+# PROGRAM is crates/btrsend/out/btrsend if none is given, and the files are those of docs/example. Each
+# is a whole stream, or several one after the other.
+#
+# Of each file: `text` ends with status 0; `pack` makes streams of this text, which have the same
+# text, in a pipe too; packing that again changes nothing; `dump` prints the same commands of both,
+# but for their places. What `compose` and `gen` write is in the one spelling already, so it comes
+# back byte for byte; so is what `send` of a store writes. A text that is cut behind each of its
+# lines is refused at the line behind the last one. Status 0 if all is right.
 here=$(CDPATH='' cd -- "$(dirname -- "$0")" && pwd) || exit 2
-program=${1:-$here/../crates/btrsend/out/btrsend}
-[ -f "$program" ] && [ -x "$program" ] || { echo "there is no program $program" >&2; exit 2; }
-program=$(CDPATH='' cd -- "$(dirname -- "$program")" && pwd)/$(basename -- "$program") || exit 2
+program=$1
+. "$here/begin.sh"
 [ $# -gt 0 ] && shift
-[ $# -gt 0 ] || set -- "$here/../docs/example/monday" "$here/../docs/example/tuesday" "$here/../docs/example/wednesday"
-folder=$(mktemp -d) || exit 2
-trap 'rm -rf -- "$folder"' EXIT
-trap 'exit 2' HUP INT TERM
-wrong=0 files=0
+example=$here/../docs/example
+[ $# -gt 0 ] || set -- "$example/monday" "$example/tuesday" "$example/wednesday"
+files=0
 
 # FILE WHAT: something is wrong with it.
 complain() {

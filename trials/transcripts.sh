@@ -6,16 +6,19 @@
 #   transcripts.sh            compares
 #   transcripts.sh --write    puts the table there
 #
-# A run of `every` counts once for each answer that it shows. After each fault of a disk and each loss
-# of power the store must have each snapshot whose line was written before. Status 0 if that holds,
-# the table is right, and nothing but what can have no case is without one. Needs python3.
+# A run of `every` counts once for each answer that it shows. After each fault of a disk and each
+# loss of power the store must have each snapshot whose line was written before. Status 0 if that
+# holds, the table is right, and nothing but what can have no case is without one. Needs python3.
 here=$(CDPATH='' cd -- "$(dirname -- "$0")/.." && pwd) || exit 2
 cd -- "$here" || exit 2
-exec python3 - "$@" <<'PYTHON'
+exec python3 -B - "$@" <<'PYTHON'
 import glob
 import re
 import sys
 import textwrap
+
+sys.path.insert(0, 'trials')
+from pages import keep
 
 PAGE, BEGIN, END = 'crates/transcripts/src/main.rt', '// BEGIN CASES\n', '// END CASES\n'
 # The statuses of too little memory and of a file of 2^62 bytes, a refusal that is never answered,
@@ -71,17 +74,7 @@ kinds = [
 lines = ['// ' + line + '\n' for title, names in kinds for line in row(title, names)]
 missing = [key for _, names in kinds for key, _ in names if key not in counts and key not in WITHOUT]
 
-page = open(PAGE).read()
-before, begins, rest = page.partition(BEGIN)
-old, ends, after = rest.partition(END)
-if not ends:
-    sys.exit(PAGE + ' has no place for the cases')
-new = before + begins + ''.join(lines) + ends + after
-if sys.argv[1:] == ['--write']:
-    open(PAGE, 'w').write(new)
-    print('written: ' + PAGE)
-elif new != page:
-    sys.exit(PAGE + ' counts other cases than the scripts have: transcripts.sh --write')
+keep(PAGE, (BEGIN, END), lines, 'transcripts.sh', 'counts other cases than the scripts have')
 
 def faults():
     """Gives the run, what it wrote and what `list` says then, of each fault of a disk."""

@@ -125,8 +125,9 @@ def plain(text):
     text = re.sub(r'\[([^\]]*)\]\([^)]*\)', r'\1', text)
     return re.sub(r'`[^`]*`', 'code', text).replace('*', '')
 
-# The paragraphs of the man page that are prose, each with the number of its first line. What an entry is called is none. An
-# explanation says what is wrong, and behind a colon what to do, which counts as two sentences.
+# The paragraphs of the man page that are prose, each with the number of its first line. What an
+# entry is called is none. An explanation says what is wrong, and behind a colon what to do, which
+# counts as two sentences.
 def manual_paragraphs(text):
     found, begin, filled, before = [], 0, True, ''
     text = re.sub(r'(?<=^\.\\" EXPLANATION ).*?(?=^\.\\" END)', lambda said: re.sub('[:;] ', '. ', said.group()), text, flags=re.M | re.S)
