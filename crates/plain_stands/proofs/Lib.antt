@@ -1,0 +1,5 @@
+pub mod Passed
+pub mod Alike
+pub mod Standing
+pub mod Between
+pub mod Searching
